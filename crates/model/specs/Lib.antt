@@ -1,0 +1,12 @@
+pub mod Parameters
+pub mod Words
+pub mod Numbers
+pub mod Arithmetic
+pub mod Instructions
+pub mod Load
+pub mod Images
+pub mod Machine
+pub mod Grants
+pub mod Step
+pub mod Calls
+pub mod Demand

@@ -1,0 +1,188 @@
+-- Document 01, "Loading", and load's replies.
+use Prim.Native.Nat.{ℕ, zero, suc, _*_, _-_, _/_, _%_}
+use mathlib.Core.Bool.{Bool, true, false, _&&_, cond}
+use mathlib.Core.List.{List, [], _∷_, _++_, map}
+use mathlib.Core.Option.{Option, none, some}
+use lib.Dec.{eqb, ltb, leb}
+use lib.IntN.{ℤ}
+use lib.ListN.{length, getD, replicate}
+use Rattle.model.specs.declared.Parameters.{Parameters}
+use Rattle.model.specs.declared.LoadReply.{LoadReply}
+use Rattle.model.specs.declared.LoadReply.the-variants.{Accepted, Refused}
+use Rattle.model.specs.Parameters.{Check, _unless_, refusalOf, parameterChecks, limit, inRange}
+use Rattle.model.specs.Words.{Argument, register, special, direct, literal, argumentWord, Cell, cellWith, cellWords}
+use Rattle.model.specs.Numbers.{bytes, among, upper, mapped, natural, number}
+use Rattle.model.specs.Instructions.{Row, rows, rowOf}
+
+-- w in front of ws, unless it is empty
+abbrev pub keep : List ℕ → List (List ℕ) → List (List ℕ)
+keep [] ws = ws
+keep (b ∷ w) ws = (b ∷ w) ∷ ws
+
+-- "Lines are separated by LF; a final LF begins no line, and the empty text has none." w is the line's beginning.
+unfoldable pub linesFrom : List ℕ → List ℕ → List (List ℕ)
+linesFrom w [] = keep w []
+linesFrom w (b ∷ s) = elim (eqb b 10) [ true ↦ w ∷ linesFrom [] s | false ↦ linesFrom (w ++ (b ∷ [])) s ]
+
+abbrev pub lines : List ℕ → List (List ℕ)
+lines s = linesFrom [] s
+
+-- "`/`, `#` or `;` begins a comment to the line's end."
+abbrev pub isComment : ℕ → Bool
+isComment b = among (35 ∷ 47 ∷ 59 ∷ []) b
+
+-- "Space, tab, CR and comma separate words and may lead or trail."
+abbrev pub isSeparator : ℕ → Bool
+isSeparator b = among (9 ∷ 13 ∷ 32 ∷ 44 ∷ []) b
+
+-- The words of a line; w is the beginning of one.
+unfoldable pub wordsFrom : List ℕ → List ℕ → List (List ℕ)
+wordsFrom w [] = keep w []
+wordsFrom w (b ∷ s) =
+    elim (isComment b) [
+      | true ↦ keep w []
+      | false ↦ elim (isSeparator b) [ true ↦ keep w (wordsFrom [] s) | false ↦ wordsFrom (w ++ (b ∷ [])) s ]
+    ]
+
+abbrev pub words : List ℕ → List (List ℕ)
+words l = wordsFrom [] l
+
+-- "Case is ignored": a word is a name written in capitals.
+unfoldable pub sameWord : List ℕ → List ℕ → Bool
+sameWord [] [] = true
+sameWord [] (y ∷ ys) = false
+sameWord (x ∷ xs) [] = false
+sameWord (x ∷ xs) (y ∷ ys) = eqb (upper x) y && sameWord xs ys
+
+-- The instruction's number by its name, from k on; 0 where the word is no name.
+unfoldable pub lookupFrom : ℕ → List ℕ → List (List ℕ) → ℕ
+lookupFrom k w [] = 0
+lookupFrom k w (n ∷ ns) = elim (sameWord w n) [ true ↦ k | false ↦ lookupFrom (suc k) w ns ]
+
+unfoldable pub names : List (List ℕ)
+names = map (λ (r : Row). r .name) rows
+
+abbrev pub lookup : List ℕ → ℕ
+lookup w = lookupFrom 1 w names
+
+-- "R or DM with digits, IAR, IRCR, SHR, or a number as in IN."
+unfoldable pub specialOf : List ℕ → ℕ
+specialOf w =
+    elim (sameWord w (bytes "IAR")) [
+      | true ↦ 256
+      | false ↦ elim (sameWord w (bytes "IRCR")) [ true ↦ 257 | false ↦ elim (sameWord w (bytes "SHR")) [ true ↦ 258 | false ↦ 0 ] ]
+    ]
+
+-- what follows a D
+abbrev pub afterD : List ℕ → Option Argument
+afterD [] = none
+afterD (b ∷ s) = elim (eqb (upper b) 77) [ true ↦ mapped direct (natural s) | false ↦ none ]
+
+unfoldable pub plain : List ℕ → Option Argument
+plain [] = none
+plain (b ∷ s) =
+    elim (eqb (upper b) 82) [
+      | true ↦ mapped register (natural s)
+      | false ↦ elim (eqb (upper b) 68) [ true ↦ afterD s | false ↦ mapped literal (number (b ∷ s)) ]
+    ]
+
+unfoldable pub argument : List ℕ → Option Argument
+argument w = elim (eqb (specialOf w) 0) [ true ↦ plain w | false ↦ some (special (specialOf w)) ]
+
+-- Something, or the number of a fault: 11 to 14.
+pub data Checked (A : Type 0) : Type 0 where
+  fine : A → Checked A
+  fault : ℕ → Checked A
+
+-- A place's form allows an argument.
+unfoldable pub allows : ℕ → Argument → Bool
+allows form (register r) = eqb (form % 2) 1
+allows form (special r) = eqb (form / 2 % 2) 1
+allows form (direct d) = eqb (form / 4 % 2) 1
+allows form (literal z) = eqb (form / 8 % 2) 1
+
+-- None of "register ≥ N, cell ≥ B, or number outside the range".
+unfoldable pub isWithin : Parameters → Argument → Bool
+isWithin p (register r) = ltb r (p .n)
+isWithin p (special r) = true
+isWithin p (direct d) = ltb d (p .b)
+isWithin p (literal z) = inRange (limit (p .k)) z
+
+-- "13 (not an argument, or a form that place does not allow, a written special register included), 14 (..)"
+abbrev pub placed : Parameters → ℕ → Option Argument → Checked ℕ
+placed p form none = fault 13
+placed p form (some a) = cond (allows form a) (cond (isWithin p a) (fine (argumentWord a)) (fault 14)) (fault 13)
+
+-- "for each argument from the left": the words behind xs, or the first fault
+unfoldable pub argumentsFrom : Parameters → List ℕ → (forms : List ℕ) → List (List ℕ) → Checked (List ℕ)
+argumentsFrom p xs [] ws = fine xs
+argumentsFrom p xs (f ∷ fs) [] = fault 12
+argumentsFrom p xs (f ∷ fs) (w ∷ ws) =
+    elim (placed p f (argument w)) [ fine x ↦ argumentsFrom p (xs ++ (x ∷ [])) fs ws | fault k ↦ fault k ]
+
+abbrev pub headed : ℕ → Checked (List ℕ) → Checked Cell
+headed n (fine xs) = fine (cellWith n xs)
+headed n (fault k) = fault k
+
+-- "11 unknown instruction, 12 wrong count of arguments", then the arguments. "A line without words is NOP."
+unfoldable pub lineCell : Parameters → List (List ℕ) → Checked Cell
+lineCell p [] = fine (cellWith 44 [])
+lineCell p (w ∷ ws) =
+    elim (eqb (lookup w) 0) [
+      | true ↦ fault 11
+      | false ↦
+          elim (eqb (length ws) (length (rowOf (lookup w) .forms))) [
+            | true ↦ headed (lookup w) (argumentsFrom p [] (rowOf (lookup w) .forms) ws)
+            | false ↦ fault 12
+          ]
+    ]
+
+abbrev pub lineOf : Parameters → List ℕ → Checked Cell
+lineOf p l = lineCell p (words l)
+
+-- "the first faulty line, with its index", counted from i; or the count of lines
+unfoldable pub linesReply : Parameters → ℕ → List (List ℕ) → LoadReply
+linesReply p i [] = Accepted i
+linesReply p i (l ∷ ls) = elim (lineOf p l) [ fine c ↦ linesReply p (suc i) ls | fault k ↦ Refused k i ]
+
+-- "Line i, from 0, fills cell i"
+abbrev pub wordsOf : Checked Cell → List ℕ
+wordsOf (fine c) = cellWords c
+wordsOf (fault k) = []
+
+unfoldable pub linesWords : Parameters → List (List ℕ) → List ℕ
+linesWords p [] = []
+linesWords p (l ∷ ls) = wordsOf (lineOf p l) ++ linesWords p ls
+
+-- What the text alone is refused for, 8 ("more than T lines") and 11 to 14; or the count of lines.
+unfoldable pub textReply : Parameters → List ℕ → LoadReply
+textReply p text = cond (leb (length (lines text)) (p .t)) (linesReply p 0 (lines text)) (Refused 8 0)
+
+-- The image of an accepted text: "the others are empty".
+unfoldable pub imageOf : Parameters → List ℕ → List ℕ
+imageOf p text = linesWords p (lines text) ++ replicate (4 * (p .t - length (lines text))) 0
+
+-- "6 image slice not 4·T words; 7 text over 65,536 bytes"
+abbrev pub lengthCheck : Parameters → List ℕ → Check
+lengthCheck p image = 6 unless (eqb (length image) (4 * p .t))
+
+unfoldable pub loadChecks : Parameters → (text old : List ℕ) → List Check
+loadChecks p text old = parameterChecks p ++ (lengthCheck p old ∷ 7 unless (leb (length text) 65536) ∷ [])
+
+unfoldable pub loadReply : Parameters → (text old : List ℕ) → LoadReply
+loadReply p text old = elim (refusalOf (loadChecks p text old)) [ zero ↦ textReply p text | suc k ↦ Refused (suc k) 0 ]
+
+-- The image slice after load: a refusal "changes no record or buffer".
+abbrev pub imageAfter : Parameters → (text old : List ℕ) → LoadReply → List ℕ
+imageAfter p text old (Accepted n) = imageOf p text
+imageAfter p text old (Refused k i) = old
+
+-- The paper's numbers of a reply: the refusal's, 0 if there is none; the count of lines; the faulty line's index.
+pub record LoadNumbers : Type 0 where
+  pub refusal : ℕ
+  pub lines : ℕ
+  pub line : ℕ
+
+unfoldable pub loadNumbers : LoadReply → LoadNumbers
+loadNumbers (Accepted n) = record { refusal = 0; lines = n; line = 0 }
+loadNumbers (Refused k i) = record { refusal = k; lines = 0; line = i }
