@@ -1,7 +1,7 @@
 -- Laws about ℤ. `mag z` is n both for n and for -(n + 1), so that a range of a signed width is one bound in ℕ. Assumes nothing.
 use Prim.Native.Nat.{ℕ, zero, suc, _≤_}
 use native.Mathlib.Omega.{arith}
-use lib.IntN.{ℤ, pos, predℤ, _-ℤ_, -ℤ-one}
+use lib.IntN.{pos, predℤ, _-ℤ_, -ℤ-one}
 use lib.Signed.{mag}
 
 pub mag-pred : (n : ℕ) → mag (pos n -ℤ pos 1) ≤ n

@@ -1,2 +1,7 @@
 mod Integers
 mod Marked
+mod Laws
+mod One
+mod Fuel
+mod Lists
+mod Demand

@@ -4,7 +4,7 @@ use Prim.Native.String.{String}
 use mathlib.Core.Path.{_≡_, refl}
 use mathlib.Core.List.{List, [], _∷_, _++_, map}
 use lib.IntN.{ℤ, pos, negsuc}
-use lib.ListN.{length, getD, take, replicate}
+use lib.ListN.{length, take, replicate}
 use Rattle.model.specs.declared.Parameters.{Parameters}
 use Rattle.model.specs.declared.Ending.{Ending}
 use Rattle.model.specs.declared.Ending.the-variants.{Failed, Ended, Paused, OutputFull}
@@ -16,7 +16,7 @@ use Rattle.model.specs.declared.LoadReply.the-variants as load
 use Rattle.model.specs.Parameters.{parameterChecks}
 use Rattle.model.specs.Numbers.{bytes, digitsFrom}
 use Rattle.model.specs.Arithmetic.{checked, divide, remainder, negation, logic, bitsOf, signedOf, bitwise, shiftLeft, shiftRight, shiftRightSigned}
-use Rattle.model.specs.Instructions.{rowOf, directs, costOf}
+use Rattle.model.specs.Instructions.{rows, rowOf, directs, costOf}
 use Rattle.model.specs.Load.{linesFrom, wordsFrom, sameWord, lookupFrom, names, specialOf, plain, argument, allows, isWithin, argumentsFrom, lineCell, linesReply, linesWords, textReply, imageOf, loadChecks, loadReply}
 use Rattle.model.specs.Images.{wordFits, wordsFit, cellFits, allZero, cellsFit}
 use Rattle.model.specs.Machine.{look, lookAt}
@@ -96,7 +96,8 @@ computed (grants a b) = grants a a
 
 pub marks : List Mark
 marks =
-    words (firstCell "SET R0 13") (0x8 ∷ 0x40000000 ∷ 0xC000000D ∷ 0 ∷ [])
+    words (length rows ∷ []) (54 ∷ [])
+    ∷ words (firstCell "SET R0 13") (0x8 ∷ 0x40000000 ∷ 0xC000000D ∷ 0 ∷ [])
     ∷ words (firstCell "SET R0 -10") (0x8 ∷ 0x40000000 ∷ 0xFFFFFFF6 ∷ 0 ∷ [])
     ∷ values (registers "SET R0 13\nSET R1 -10\nDIV R0 R1 R1") (pos 13 ∷ negsuc 0 ∷ [])
     ∷ values (registers "SET R0 13\nSET R1 -10\nMOD R0 R1 R1") (pos 13 ∷ pos 3 ∷ [])

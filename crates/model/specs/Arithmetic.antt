@@ -1,8 +1,8 @@
 -- Document 01, "Instructions": what the operations make of values, with their return codes. m is M.
 use Prim.Native.Nat.{ℕ, suc, _+_, _*_, _-_, _/_, _%_}
-use mathlib.Core.Bool.{Bool, true, false, not, _&&_, cond}
+use mathlib.Core.Bool.{Bool, not, _&&_, cond}
 use lib.Dec.{ltb}
-use lib.IntN.{ℤ, pos, negsuc, negℤ, natAbs}
+use lib.IntN.{ℤ, pos, negsuc}
 use lib.Signed.{quotZ, remZ}
 use Rattle.model.specs.Parameters.{inRange, eqZ, booleanOf, isTrue, isBoolean}
 

@@ -1,5 +1,5 @@
 -- Document 01, "Replies of each call": start, grant and the decimal writer. Load's stand in Load.antt.
-use Prim.Native.Nat.{ℕ, zero, suc, _+_, _*_}
+use Prim.Native.Nat.{ℕ, zero, suc, _+_}
 use mathlib.Core.Bool.{Bool, true, _&&_, cond}
 use mathlib.Core.List.{List, [], _∷_, _++_}
 use lib.Dec.{eqb, ltb, leb}
@@ -19,7 +19,7 @@ use Rattle.model.specs.Parameters.{Check, _unless_, refusalOf, parameter
 use Rattle.model.specs.Numbers.{bytes, decimal}
 use Rattle.model.specs.Load.{lengthCheck}
 use Rattle.model.specs.Images.{imageFits}
-use Rattle.model.specs.Grants.{Call, Reply, Account, Result, grant}
+use Rattle.model.specs.Grants.{Call, Account, Result, grant}
 use Rattle.model.specs.Step.{Environment, State, Tak}
 
 -- "Start makes the fresh record (all 0 but SHR = B-1) with its parameters".

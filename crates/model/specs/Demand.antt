@@ -5,13 +5,12 @@ use mathlib.Core.List.{List, [], _∷_, _++_, map}
 use mathlib.Core.Option.{none, some}
 use lib.IntN.{ℤ}
 use lib.ListN.{take}
-use Rattle.model.specs.declared.Parameters.{Parameters}
 use Rattle.model.specs.declared.Record.{Record}
 use Rattle.model.specs.declared.Ending.the-variants.{OutputFull}
-use Rattle.model.specs.Machine.{Machine, after, outputs, costs, Reaches, Largest}
+use Rattle.model.specs.Machine.{after, outputs, costs, Reaches, Largest}
 use Rattle.model.specs.Grants.{Call, Reply, lastEnding, total, Works}
-use Rattle.model.specs.Step.{Environment, State, Tak}
-use Rattle.model.specs.Calls.{Started, started, Granted, granted, grantRefusal}
+use Rattle.model.specs.Step.{Environment, Tak}
+use Rattle.model.specs.Calls.{Started, Granted, granted, grantRefusal}
 
 -- What a call leaves for the next one: the record and the memory ("the registers and the data cells").
 pub record Held : Type 0 where

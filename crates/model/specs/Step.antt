@@ -1,6 +1,6 @@
 -- Document 01, "Instructions" and "Grants and their endings": the TAK machine, its states and its step.
 use Prim.Native.Nat.{ℕ, _+_}
-use mathlib.Core.Bool.{Bool, true, false, Bool·beq, _&&_, _||_, cond}
+use mathlib.Core.Bool.{true, false, Bool·beq, _&&_, _||_, cond}
 use mathlib.Core.List.{List, [], _∷_}
 use mathlib.Core.Option.{Option, none, some}
 use lib.Dec.{eqb, ltb}
@@ -93,8 +93,8 @@ stores w s (value v) = next (store w v s)
 stores w s (code k) = fails k
 
 -- "Valid targets are 0..T-1, also of empty cells": code 1 (003: wrong jump target).
-unfoldable pub jumpTo : Parameters → ℤ → State → Effect
-jumpTo p z s = cond (nonNeg z && ltb (natAbs z) (p .t)) (succeeds (withIAR (natAbs z) s)) (fails 1)
+unfoldable pub jumpTo : Environment → ℤ → State → Effect
+jumpTo e z s = cond (nonNeg z && ltb (natAbs z) (e .parameters .t)) (succeeds (withIAR (natAbs z) s)) (fails 1)
 
 -- PUSH "raises SHR first, so PUSH SHR pushes the raised value. Code 1 if the raised SHR is S."
 unfoldable pub push : Parameters → ℕ → State → Effect
@@ -145,15 +145,15 @@ execute e outputs c s = next s
 execute e pushes c s = push (e .parameters) (c .first) s
 execute e pops c s = pop (e .parameters) (c .first) s
 -- "SKIP at cell i has code 1 if i + 2 ≥ T."
-execute e skips c s = jumpTo (e .parameters) (pos (s .iar + 2)) s
+execute e skips c s = jumpTo e (pos (s .iar + 2)) s
 execute e idles c s = next s
 execute e (writes to f) c s = stores (argumentAt to c) s (f (limit (e .parameters .k)) (valueOf s (c .first)) (valueOf s (c .second)))
 -- "An untaken jump never fails."
-execute e (jumps test) c s = cond (test (valueOf s (c .second)) (valueOf s (c .third))) (jumpTo (e .parameters) (valueOf s (c .first)) s) (next s)
+execute e (jumps test) c s = cond (test (valueOf s (c .second)) (valueOf s (c .third))) (jumpTo e (valueOf s (c .first)) s) (next s)
 -- "JMPT and JMPF test for a Boolean (code 2) before the target (code 1)."
 execute e (jumpsOn b) c s =
     cond (isBoolean (valueOf s (c .second)))
-    (cond (Bool·beq (isTrue (valueOf s (c .second))) b) (jumpTo (e .parameters) (valueOf s (c .first)) s) (next s))
+    (cond (Bool·beq (isTrue (valueOf s (c .second))) b) (jumpTo e (valueOf s (c .first)) s) (next s))
     (fails 2)
 
 -- "With code 0 it sets IRCR to 0 ..; With another code it sets IRCR and changes nothing else".

@@ -1,15 +1,13 @@
 -- `Record::fresh` meets its contract: B is a number of 32 bits, so B - 1 fits 64 signed ones. Assumes nothing.
 use borrow.Author.Needs.{needs}
 use native.Mathlib.Omega.{arith}
-use lib.IntN.{ℤ, pos, _-ℤ_}
+use lib.IntN.{pos, _-ℤ_}
 use mir.Syntax.{w64}
 use mir.Val.{SFits}
 use mir.Facts.{toZ-ofZ, toZ-pos}
 use Rattle.model.proofs.Integers.{mag-pred}
 use Rattle.model.proofs.Record.fresh.Statement.{statement}
 use Rattle.model.proofs.Record.fresh.Tie as tie
-use Rattle.model.proofs.Record.fresh.Reads as reads
-use Rattle.model.proofs.Record.fresh.Lts as lts
 
 low : (c : tie.After-struct-known) → SFits w64 (pos (c .before .args .parameters .b) -ℤ pos 1)
 low c = record { sfits = let h = mag-pred (c .before .args .parameters .b) in omega (arith, c .struct-known .given .1 .1 .1 .0) }

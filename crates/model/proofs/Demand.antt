@@ -1,0 +1,107 @@
+-- DEMAND 3 of the TAK machine: every list of grants from an accepted start. Assumes nothing.
+use Prim.Native.Nat.{ℕ, zero, suc}
+use mathlib.Core.Path.{_≡_, refl, sym, ap, _∙_}
+use mathlib.Core.List.{List, [], _∷_, _++_, map}
+use lib.IntN.{ℤ}
+use lib.ListN.{take}
+use Rattle.model.specs.declared.Parameters.{Parameters}
+use Rattle.model.specs.Parameters.{refusalOf}
+use Rattle.model.specs.Machine.{Machine, after, costs, Priced}
+use Rattle.model.specs.Grants.{Call, Reply, Account, Result, grant, start, results, final, joined, replies}
+use Rattle.model.specs.Step.{Environment, State, Tak}
+use Rattle.model.specs.Calls.{startChecks, started, Granted, granted, grantedBy, recordOf, grantRefusal}
+use Rattle.model.specs.Demand.{Held, heldAfterStart, gives, leaves, replyOf, joinedOutputs, IsAfter, Demand3}
+use Rattle.model.proofs.Lists as lists
+
+-- The record and the memory that an account stands for.
+abbrev pub heldOf : Parameters → Account State → Held
+heldOf p a = record { rec = recordOf p a; registers = a .state .registers; cells = a .state .cells }
+
+joined-is : (p : Parameters) (xs : List (Result State)) → joinedOutputs (map (grantedBy p) xs) ≡ joined xs
+unfolding joinedOutputs joined
+joined-is p [] = refl
+joined-is p (x ∷ xs) = ap (λ (l : List ℤ). take (x .reply .count) (x .slice) ++ l) (joined-is p xs)
+
+replies-is : (p : Parameters) (xs : List (Result State)) → map replyOf (map (grantedBy p) xs) ≡ replies xs
+unfolding replies
+replies-is p [] = refl
+replies-is p (x ∷ xs) = ap (λ (l : List Reply). x .reply ∷ l) (replies-is p xs)
+
+module _ (e : Environment) where
+  abbrev p : Parameters
+  p = e .parameters
+
+  abbrev M : Machine
+  M = Tak e
+
+  abbrev check : Account State → Call → ℕ
+  check = grantRefusal e
+
+  -- A list of grants over records and memory is one over accounts.
+  gives-is : (calls : List Call) (a : Account State) → gives (e .image) (e .input) (heldOf p a) calls ≡ map (grantedBy p) (results M check a calls)
+  unfolding gives results granted
+  gives-is [] a = refl
+  gives-is (c ∷ cs) a = ap (λ (l : List Granted). grantedBy p (grant M check a c) ∷ l) (gives-is cs (grant M check a c .account))
+
+  leaves-is : (calls : List Call) (a : Account State) → leaves (e .image) (e .input) (heldOf p a) calls ≡ heldOf p (final M check a calls)
+  unfolding leaves final granted
+  leaves-is [] a = refl
+  leaves-is (c ∷ cs) a = leaves-is cs (grant M check a c .account)
+
+  -- What a list leaves, read as an account, and what is after m instructions in its parts.
+  to-stands : (m : ℕ) (a : Account State) (out out′ : List ℤ) → out ≡ out′ → IsAfter e m (heldOf p a) out → lists.Stands M m a out′
+  to-stands m a out out′ h s =
+      record {
+        reaches = s .instructions;
+        state =
+          λ i.
+          record {
+            iar = s .iar i;
+            ircr = s .ircr i;
+            shr = s .shr i;
+            place = s .place i;
+            registers = s .registers i;
+            cells = s .cells i
+          };
+        outs = sym h ∙ s .outs;
+        count = s .count
+      }
+
+  to-after : (m : ℕ) (a : Account State) (out out′ : List ℤ) → out ≡ out′ → lists.Stands M m a out′ → IsAfter e m (heldOf p a) out
+  to-after m a out out′ h s =
+      record {
+        instructions = s .reaches;
+        iar = ap (λ (x : State). x .iar) (s .state);
+        ircr = ap (λ (x : State). x .ircr) (s .state);
+        shr = ap (λ (x : State). x .shr) (s .state);
+        place = ap (λ (x : State). x .place) (s .state);
+        registers = ap (λ (x : State). x .registers) (s .state);
+        cells = ap (λ (x : State). x .cells) (s .state);
+        outs = h ∙ s .outs;
+        count = s .count
+      }
+
+  -- The generic theorem in the terms of records, memory and slices.
+  module _ (calls : List Call) where
+    abbrev res : List (Result State)
+    res = results M check (start M) calls
+
+    outs-is : joinedOutputs (gives (e .image) (e .input) (heldOf p (start M)) calls) ≡ joined res
+    outs-is = rw (gives-is calls (start M)) (joined-is p res)
+
+    replied-is : map replyOf (gives (e .image) (e .input) (heldOf p (start M)) calls) ≡ replies res
+    replied-is = rw (gives-is calls (start M)) (replies-is p res)
+
+    translate : lists.Demand3 M check calls → Demand3 e (heldOf p (start M)) calls
+    translate d =
+        let held = leaves-is calls (start M) in
+        record {
+          m = d .m;
+          is-after = rw held (to-after (d .m) _ _ _ outs-is (d .stands));
+          only = λ n s. d .only n (to-stands n _ _ _ outs-is (rw held at s));
+          replies = rw replied-is (d .works);
+          replies-only = λ rs n g w. d .replies-only rs n g w ∙ sym replied-is;
+          largest = rw replied-is (d .largest);
+          granted-sum = rw (held, replied-is) (d .granted);
+          parameters = rw held
+        }
