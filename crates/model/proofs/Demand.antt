@@ -54,17 +54,17 @@ module _ (e : Environment) where
       record {
         reaches = s .instructions;
         state =
-          λ i.
-          record {
-            iar = s .iar i;
-            ircr = s .ircr i;
-            shr = s .shr i;
-            place = s .place i;
-            registers = s .registers i;
-            cells = s .cells i
-          };
+            λ i.
+            record {
+              iar = s .iar i;
+              ircr = s .ircr i;
+              shr = s .shr i;
+              place = s .place i;
+              registers = s .registers i;
+              cells = s .cells i;
+            };
         outs = sym h ∙ s .outs;
-        count = s .count
+        count = s .count;
       }
 
   to-after : (m : ℕ) (a : Account State) (out out′ : List ℤ) → out ≡ out′ → lists.Stands M m a out′ → IsAfter e m (heldOf p a) out
@@ -78,7 +78,7 @@ module _ (e : Environment) where
         registers = ap (λ (x : State). x .registers) (s .state);
         cells = ap (λ (x : State). x .cells) (s .state);
         outs = h ∙ s .outs;
-        count = s .count
+        count = s .count;
       }
 
   -- The generic theorem in the terms of records, memory and slices.
@@ -103,5 +103,5 @@ module _ (e : Environment) where
           replies-only = λ rs n g w. d .replies-only rs n g w ∙ sym replied-is;
           largest = rw replied-is (d .largest);
           granted-sum = rw (held, replied-is) (d .granted);
-          parameters = rw held
+          parameters = rw held;
         }

@@ -69,7 +69,7 @@ module _ (M : Machine) where
           outs = t .outs ∙ rw (a .values, append-assoc);
           sum = rw (a .reply) (omega arith);
           works = rw (a .reply) (accepts h (a .runs) (t .works));
-          largest = rw (a .reply) (t .largest)
+          largest = rw (a .reply) (t .largest);
         }
 
     then-refused : (m g k : ℕ) (e : Option Ending) (c : Call) (cs : List Call) (fin : Account St) (res : List (Result St)) →
@@ -85,7 +85,7 @@ module _ (M : Machine) where
           outs = t .outs;
           sum = t .sum;
           works = refuses h (t .works);
-          largest = t .largest
+          largest = t .largest;
         }
 
     pub grant-accepted : (a : Account St) (c : Call) → refusal a c ≡ 0 → grant M refusal a c ≡ accept M a c
@@ -105,13 +105,13 @@ module _ (M : Machine) where
       where
         go : (k : ℕ) → refusal (accountAt M m g) c ≡ k →
             ((m g : ℕ) (e : Option Ending) → Reaches M m → costs M m ≤ g → (¬ (e ≡ some OutputFull) → Largest M m g) →
-              From m g e cs (final M refusal (accountAt M m g) cs) (results M refusal (accountAt M m g) cs)) →
+            From m g e cs (final M refusal (accountAt M m g) cs) (results M refusal (accountAt M m g) cs)) →
             From m g e (c ∷ cs) (final M refusal (accountAt M m g) (c ∷ cs)) (results M refusal (accountAt M m g) (c ∷ cs))
         go zero h ih =
             let a = accept-runs M priced m g c r f in
             rw (grant-accepted (accountAt M m g) c h)
-              (then-accepted m g e c cs _ _ _ h a
-                (rw (a .account) (ih (a .n) (g + c .cycles) (some (a .e)) (a .reaches) (a .fits) λ d. a .most λ p. d (ap some p))))
+            (then-accepted m g e c cs _ _ _ h a
+            (rw (a .account) (ih (a .n) (g + c .cycles) (some (a .e)) (a .reaches) (a .fits) λ d. a .most λ p. d (ap some p))))
         go (suc k) h ih = rw (grant-refused (accountAt M m g) c k h) (then-refused m g k e c cs _ _ h (ih m g e r f l))
 
     -- What is worked out is one thing: the replies, the place and the cycles granted.
@@ -139,7 +139,7 @@ module _ (M : Machine) where
           works = rw sum at (t .works);
           replies-only = λ rs n g w. works-only calls 0 0 _ _ _ _ _ _ w (t .works) .0;
           granted = rw (t .leaves) sum;
-          largest = rw sum at (t .largest)
+          largest = rw sum at (t .largest);
         }
 
     -- DEMAND 3 holds of every list.

@@ -62,11 +62,20 @@ module _ (M : Machine) where
       where
         go : (v : Look) → lookAt M (after M i) (granted - costs M i) (room - length w) ≡ v →
             (Reaches M (suc i) → costs M (suc i) ≤ granted → outputs M (suc i) ≡ outputs M m ++ (w ++ values (after M i)) →
-              granted - costs M (suc i) < fuel → Reached m (suc i) (loop M granted room fuel (standing (suc i) (w ++ values (after M i))))) →
+            granted - costs M (suc i) < fuel → Reached m (suc i) (loop M granted room fuel (standing (suc i) (w ++ values (after M i))))) →
             Reached m i (loop M granted room (suc fuel) (standing i w))
         go (stops e) h ih = rw (loop-stops fuel (standing i w) e h)
-            (record { n = i; later = le-refl i; on = λ k a b. absurd (omega arith); off = sees-at m i w o ∙ h; reaches = r; fits = f;
-                      state = refl; spent = refl; written = o })
+            (record {
+              n = i;
+              later = le-refl i;
+              on = λ k a b. absurd (omega arith);
+              off = sees-at m i w o ∙ h;
+              reaches = r;
+              fits = f;
+              state = refl;
+              spent = refl;
+              written = o;
+            })
         go goes h ih =
             let g = look-goes (status (after M i)) (ltb (granted - costs M i) (cost (after M i))) (ltb (room - length w) (length (values (after M i)))) h in
             let dear = ltb-false (granted - costs M i) (cost (after M i)) (g .paid) in
@@ -83,11 +92,11 @@ module _ (M : Machine) where
               fits = rest .fits;
               state = rest .state;
               spent = rest .spent;
-              written = rest .written
+              written = rest .written;
             })
           where
             split : (k : ℕ) → (i ≡ k) ⊎ (i < k) → (i < k → sees M granted room m k ≡ goes) →
-              lookAt M (after M i) (granted - costs M i) (room - length w) ≡ goes → sees M granted room m k ≡ goes
+                lookAt M (after M i) (granted - costs M i) (room - length w) ≡ goes → sees M granted room m k ≡ goes
             split k (inl e) c h = rw (← e) (sees-at m i w o ∙ h)
             split k (inr x) c h = c x
 
@@ -112,7 +121,7 @@ module _ (M : Machine) where
   unfolding handBack
   hands-back m g c t s =
       let count : length (outputs M (s .n)) - length (outputs M m) ≡ length (t .at .written) =
-        omega (arith, simp length-append at (ap length (s .written))) in
+      omega (arith, simp length-append at (ap length (s .written))) in
       record {
         n = s .n;
         e = t .ending;
@@ -122,7 +131,7 @@ module _ (M : Machine) where
         values = rw take-append-seam (s .written);
         reaches = s .reaches;
         fits = s .fits;
-        most = stopped-most _ _ m (s .n) (t .ending) (s .reaches) (s .fits) (s .off)
+        most = stopped-most _ _ m (s .n) (t .ending) (s .reaches) (s .fits) (s .off);
       }
 
   pub accept-runs : Priced M → (m g : ℕ) (c : Call) → Reaches M m → costs M m ≤ g → Accepted m g c (accept M (accountAt M m g) c)

@@ -46,6 +46,7 @@ pub record Started : Type 0 where
   pub registers : List ℤ
   pub cells : List ℤ
 
+-- Start: "1..6; 9; 10", or the fresh record, and it "zeroes registers and data".
 unfoldable pub started : Parameters → (image : List ℕ) (registers cells : List ℤ) → Started
 started p image registers cells =
     elim (refusalOf (startChecks p image registers cells)) [
@@ -58,6 +59,7 @@ started p image registers cells =
       | suc k ↦ record { reply = record { refusal = suc k; rec = zeroRecord }; registers = registers; cells = cells }
     ]
 
+-- No "register or data value outside -M..M-1".
 abbrev pub allInRange : (m : ℕ) → List ℤ → Bool
 allInRange m [] = true
 allInRange m (z ∷ zs) = inRange m z && allInRange m zs
@@ -86,10 +88,11 @@ grantChecks e a c =
     ∷ 17 unless (leb (c .cycles) 1_000_000_000 && leb (a .granted + c .cycles) 1_000_000_000_000_000)
     ∷ [])
 
+-- The number of a grant's refusal, or 0.
 unfoldable pub grantRefusal : Environment → Account State → Call → ℕ
 grantRefusal e a c = refusalOf (grantChecks e a c)
 
--- The machine's state, granted and spent are in the record and the memory, and back.
+-- The machine's state, granted and spent, from the record and the memory.
 abbrev pub accountOf : Record → (registers cells : List ℤ) → Account State
 accountOf r registers cells =
     record {
@@ -98,6 +101,7 @@ accountOf r registers cells =
       spent = r .spent;
     }
 
+-- the record of an account
 abbrev pub recordOf : Parameters → Account State → Record
 recordOf p a =
     record {
@@ -117,6 +121,7 @@ pub record Granted : Type 0 where
   pub cells : List ℤ
   pub slice : List ℤ
 
+-- The record keeps its parameters.
 abbrev pub grantedBy : Parameters → Result State → Granted
 grantedBy p x =
     record {
@@ -126,27 +131,30 @@ grantedBy p x =
       slice = x .slice;
     }
 
+-- Grant. "The result is the ending, the new record, the number of values written and the cycles spent in this call."
 unfoldable pub granted : (image input : List ℕ) → Record → (registers cells : List ℤ) → Call → Granted
 granted image input r registers cells c =
     let e : Environment = record { parameters = r .parameters; image = image; input = input } in
     grantedBy (r .parameters) (grant (Tak e) (grantRefusal e) (accountOf r registers cells) c)
 
--- The paper's number of an outcome: the refusal's, 0 for an accepted grant; and its word for an ending, as takrun prints it.
+-- The paper's number of an outcome: the refusal's, 0 for an accepted grant.
 unfoldable pub outcomeNumber : Outcome → ℕ
 outcomeNumber (Refused k) = k
 outcomeNumber (Stopped e) = 0
 
+-- The paper's word for an ending, "in capitals".
 unfoldable pub endingWord : Ending → List ℕ
 endingWord Failed = bytes "FAILED"
 endingWord Ended = bytes "ENDED"
 endingWord Paused = bytes "PAUSED"
 endingWord OutputFull = bytes "OUTPUT FULL"
 
--- "Decimal writer: 18 fewer than 11 bytes lent. .. later bytes are untouched. With 18 the count is 0."
+-- What the decimal writer hands back, and the bytes after it.
 pub record Spelled : Type 0 where
   pub reply : DecimalReply
   pub bytes : List ℕ
 
+-- "Decimal writer: 18 fewer than 11 bytes lent. .. later bytes are untouched. With 18 the count is 0."
 unfoldable pub spelled : ℤ → (old : List ℕ) → Spelled
 spelled z old =
     cond (ltb (length old) 11)

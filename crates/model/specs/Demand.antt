@@ -18,23 +18,27 @@ pub record Held : Type 0 where
   pub registers : List ℤ
   pub cells : List ℤ
 
+-- "the record and memory that an accepted start with the list's image left"
 abbrev pub heldAfterStart : Started → Held
 heldAfterStart x = record { rec = x .reply .rec; registers = x .registers; cells = x .cells }
 
+-- "the record and memory that the one before it left"
 abbrev pub heldAfter : Granted → Held
 heldAfter x = record { rec = x .reply .rec; registers = x .registers; cells = x .cells }
 
--- What each grant of a list gives, and what the list leaves. "Image and input are the same throughout."
+-- What each grant of a list gives. "Image and input are the same throughout."
 unfoldable pub gives : (image input : List ℕ) → Held → List Call → List Granted
 gives image input h [] = []
 gives image input h (c ∷ cs) =
     let x = granted image input (h .rec) (h .registers) (h .cells) c in
     x ∷ gives image input (heldAfter x) cs
 
+-- What the list leaves.
 unfoldable pub leaves : (image input : List ℕ) → Held → List Call → Held
 leaves image input h [] = h
 leaves image input h (c ∷ cs) = leaves image input (heldAfter (granted image input (h .rec) (h .registers) (h .cells) c)) cs
 
+-- "the refusal or ending, the number of values and the cycles"
 abbrev pub replyOf : Granted → Reply
 replyOf x = record { outcome = x .reply .outcome; count = x .reply .values; cycles = x .reply .cycles }
 

@@ -11,7 +11,7 @@ use Rattle.model.specs.declared.Outcome.{Outcome}
 use Rattle.model.specs.declared.Outcome.the-variants.{Refused, Stopped}
 use Rattle.model.specs.Machine.{Machine, Look, stops, goes, after, outputs, costs, lookAt}
 
--- A grant brings cycles and an output slice, whose length is the room.
+-- Document 01's grant brings cycles and an output slice, whose length is its room.
 pub record Call : Type 0 where
   pub cycles : ℕ
   pub slice : List ℤ
@@ -71,6 +71,7 @@ module _ {St : Type 0} where
   unfoldable pub refuse : ℕ → Account St → Call → Result St
   refuse n a c = record { reply = record { outcome = Refused n; count = 0; cycles = 0 }; account = a; slice = c .slice }
 
+  -- The replies of a list.
   unfoldable pub replies : List (Result St) → List Reply
   replies [] = []
   replies (x ∷ xs) = x .reply ∷ replies xs
@@ -100,6 +101,7 @@ module _ (M : Machine) where
         | goes ↦ loop granted room n (advance a)
       ]
 
+  -- "then looks and steps as above from there until one of the endings holds"
   unfoldable pub run : (granted room : ℕ) → Standing St → Stop St
   run granted room a = loop granted room (suc (granted - a .spent)) a
 
@@ -124,6 +126,7 @@ module _ (M : Machine) where
 
   -- Grant's checks: 0 accepts, another number refuses.
   module _ (refusal : Account St → Call → ℕ) where
+    -- A grant: its checks, then its run.
     unfoldable pub grant : Account St → Call → Result St
     grant a c = elim (refusal a c) [ zero ↦ accept a c | suc n ↦ refuse (suc n) a c ]
 
@@ -132,6 +135,7 @@ module _ (M : Machine) where
     results a [] = []
     results a (c ∷ cs) = grant a c ∷ results (grant a c .account) cs
 
+    -- The record and memory that a list leaves.
     unfoldable pub final : Account St → List Call → Account St
     final a [] = a
     final a (c ∷ cs) = final (grant a c .account) cs

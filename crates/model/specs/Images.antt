@@ -28,6 +28,7 @@ NoTextYields p image = (text : List ℕ) → ¬ Yields p text image
 abbrev registerFits : Parameters → (form r : ℕ) → Bool
 registerFits p form r = cond (between 256 258 r) (allows form (special r)) (allows form (register r) && isWithin p (register r))
 
+-- Neither 13 nor 14.
 abbrev argumentFits : Parameters → ℕ → Argument → Bool
 argumentFits p form a = allows form a && isWithin p a
 
@@ -38,16 +39,18 @@ wordFits p form w =
     (cond (eqb (kindOf w) 2) (argumentFits p form (direct (contentOf w)))
     (eqb (kindOf w) 3 && argumentFits p form (literal (numberOf (contentOf w)))))
 
--- "An absent argument is 0."
+-- The words at the places of a row; "An absent argument is 0."
 unfoldable pub wordsFit : Parameters → (forms words : List ℕ) → Bool
 wordsFit p [] [] = true
 wordsFit p [] (w ∷ ws) = eqb w 0 && wordsFit p [] ws
 wordsFit p (f ∷ fs) [] = false
 wordsFit p (f ∷ fs) (w ∷ ws) = wordFits p f w && wordsFit p fs ws
 
+-- An instruction: its number, and its arguments by its row.
 unfoldable pub cellFits : Parameters → Cell → Bool
 cellFits p c = between 1 (length rows) (c .head) && wordsFit p (rowOf (c .head) .forms) (c .first ∷ c .second ∷ c .third ∷ [])
 
+-- "only empty cells follow it"
 unfoldable pub allZero : List ℕ → Bool
 allZero [] = true
 allZero (w ∷ ws) = eqb w 0 && allZero ws
@@ -58,5 +61,6 @@ cellsFit p zero ws = true
 cellsFit p (suc t) ws =
     elim (isEmpty (cellOf (take 4 ws))) [ true ↦ allZero ws | false ↦ cellFits p (cellOf (take 4 ws)) && cellsFit p t (drop 4 ws) ]
 
+-- The test of a whole image of 4·T words.
 abbrev pub imageFits : Parameters → List ℕ → Bool
 imageFits p image = cellsFit p (p .t) image

@@ -57,16 +57,18 @@ pub record Row : Type 0 where
   pub multiplier : Multiplier
   pub operation : Operation
 
+-- A row whose price is not multiplied, and one of the four whose price is.
 abbrev row : String → (forms prices : List ℕ) → Operation → Row
 row name forms prices operation = record { name = bytes name; forms = forms; prices = prices; multiplier = one; operation = operation }
 
 abbrev sized : String → ℕ → Multiplier → Operation → Row
 sized name price multiplier operation = record { name = bytes name; forms = []; prices = price ∷ []; multiplier = multiplier; operation = operation }
 
--- ARG1 and ARG2 are read and ARG3 is written; ARG1 is read and ARG2 is written.
+-- ARG1 and ARG2 are read and ARG3 is written.
 abbrev binary : String → ℕ → (ℕ → ℤ → ℤ → Answer) → Row
 binary name price f = row name (source ∷ source ∷ target ∷ []) (price ∷ []) (writes third f)
 
+-- ARG1 is read and ARG2 is written.
 abbrev unary : String → (ℕ → ℤ → Answer) → Row
 unary name f = row name (source ∷ target ∷ []) (1 ∷ []) (writes second (λ m x y. f m x))
 
@@ -74,19 +76,23 @@ unary name f = row name (source ∷ target ∷ []) (1 ∷ []) (writes second (λ
 abbrev shift : String → (ℕ → ℤ → ℤ) → Row
 shift name f = row name (target ∷ []) (1 ∷ []) (writes first (λ m x y. value (f m x)))
 
+-- CMP: truth or falsehood.
 abbrev compares : String → (ℤ → ℤ → Bool) → Row
 compares name f = binary name 3 (λ m x y. value (booleanOf (f x y)))
 
+-- JMP with a comparison.
 abbrev comparesJumps : String → ℕ → (ℤ → ℤ → Bool) → Row
 comparesJumps name price f = row name (sourceOrImmediate ∷ source ∷ source ∷ []) (price ∷ []) (jumps f)
 
+-- An operation on the K bits of ARG1 and ARG2.
 abbrev bits : String → (ℕ → ℕ → ℕ → ℕ) → Row
 bits name f = binary name 2 (λ m x y. value (bitwise (f m) m x y))
 
+-- "NOP's 1 is set here."
 abbrev nop : Row
 nop = row "NOP" [] (1 ∷ []) idles
 
--- "Numbers run from 1 in this order"
+-- "Numbers run from 1 in this order"; arguments and codes are document 003's.
 abbrev pub rows : List Row
 rows =
     sized "CLEAR_REG" 1 byRegisters clearRegisters
@@ -145,21 +151,24 @@ rows =
     ∷ shift "ASR" shiftRightSigned
     ∷ []
 
--- The row of an instruction's number.
+-- The row of an instruction's number. A head that is none, which no fit image has, gets NOP's.
 unfoldable pub rowOf : ℕ → Row
 rowOf n = getD rows (n - 1) nop
 
--- Document 01, "Costs": the price by the count of direct arguments, times N or S. "A failing step costs the same."
+-- 1 for a direct argument.
 abbrev isDirect : ℕ → ℕ
 isDirect w = cond (eqb (kindOf w) 2) 1 0
 
+-- The addressing mode: the count of direct arguments.
 unfoldable pub directs : Cell → ℕ
 directs c = isDirect (c .first) + isDirect (c .second) + isDirect (c .third)
 
+-- N, S or 1.
 abbrev times : Parameters → Multiplier → ℕ
 times p one = 1
 times p byRegisters = p .n
 times p byCells = p .s
 
+-- The cost: the price by the addressing mode, times N or S. "A failing step costs the same."
 unfoldable pub costOf : Parameters → Cell → ℕ
 costOf p c = getD (rowOf (c .head) .prices) (directs c) 1 * times p (rowOf (c .head) .multiplier)

@@ -23,6 +23,7 @@ unfoldable pub linesFrom : List ℕ → List ℕ → List (List ℕ)
 linesFrom w [] = keep w []
 linesFrom w (b ∷ s) = elim (eqb b 10) [ true ↦ w ∷ linesFrom [] s | false ↦ linesFrom (w ++ (b ∷ [])) s ]
 
+-- The lines of a text.
 abbrev pub lines : List ℕ → List (List ℕ)
 lines s = linesFrom [] s
 
@@ -34,7 +35,7 @@ isComment b = among (35 ∷ 47 ∷ 59 ∷ []) b
 abbrev pub isSeparator : ℕ → Bool
 isSeparator b = among (9 ∷ 13 ∷ 32 ∷ 44 ∷ []) b
 
--- The words of a line; w is the beginning of one.
+-- The words of a line, from w on, which is the beginning of one.
 unfoldable pub wordsFrom : List ℕ → List ℕ → List (List ℕ)
 wordsFrom w [] = keep w []
 wordsFrom w (b ∷ s) =
@@ -43,6 +44,7 @@ wordsFrom w (b ∷ s) =
       | false ↦ elim (isSeparator b) [ true ↦ keep w (wordsFrom [] s) | false ↦ wordsFrom (w ++ (b ∷ [])) s ]
     ]
 
+-- The words of a line.
 abbrev pub words : List ℕ → List (List ℕ)
 words l = wordsFrom [] l
 
@@ -53,18 +55,20 @@ sameWord [] (y ∷ ys) = false
 sameWord (x ∷ xs) [] = false
 sameWord (x ∷ xs) (y ∷ ys) = eqb (upper x) y && sameWord xs ys
 
--- The instruction's number by its name, from k on; 0 where the word is no name.
+-- The place of a name among names that count from k; 0 where the word is none.
 unfoldable pub lookupFrom : ℕ → List ℕ → List (List ℕ) → ℕ
 lookupFrom k w [] = 0
 lookupFrom k w (n ∷ ns) = elim (sameWord w n) [ true ↦ k | false ↦ lookupFrom (suc k) w ns ]
 
+-- The names, in the order of their numbers.
 unfoldable pub names : List (List ℕ)
 names = map (λ (r : Row). r .name) rows
 
+-- The instruction's number by its name.
 abbrev pub lookup : List ℕ → ℕ
 lookup w = lookupFrom 1 w names
 
--- "R or DM with digits, IAR, IRCR, SHR, or a number as in IN."
+-- "IAR, IRCR, SHR", by number; 0 for another word.
 unfoldable pub specialOf : List ℕ → ℕ
 specialOf w =
     elim (sameWord w (bytes "IAR")) [
@@ -72,11 +76,12 @@ specialOf w =
       | false ↦ elim (sameWord w (bytes "IRCR")) [ true ↦ 257 | false ↦ elim (sameWord w (bytes "SHR")) [ true ↦ 258 | false ↦ 0 ] ]
     ]
 
--- what follows a D
+-- "DM with digits", from behind the D
 abbrev pub afterD : List ℕ → Option Argument
 afterD [] = none
 afterD (b ∷ s) = elim (eqb (upper b) 77) [ true ↦ mapped direct (natural s) | false ↦ none ]
 
+-- "R or DM with digits .. or a number as in IN. Leading zeros are allowed."
 unfoldable pub plain : List ℕ → Option Argument
 plain [] = none
 plain (b ∷ s) =
@@ -85,6 +90,7 @@ plain (b ∷ s) =
       | false ↦ elim (eqb (upper b) 68) [ true ↦ afterD s | false ↦ mapped literal (number (b ∷ s)) ]
     ]
 
+-- "Arguments: R or DM with digits, IAR, IRCR, SHR, or a number as in IN."
 unfoldable pub argument : List ℕ → Option Argument
 argument w = elim (eqb (specialOf w) 0) [ true ↦ plain w | false ↦ some (special (specialOf w)) ]
 
@@ -119,6 +125,7 @@ argumentsFrom p xs (f ∷ fs) [] = fault 12
 argumentsFrom p xs (f ∷ fs) (w ∷ ws) =
     elim (placed p f (argument w)) [ fine x ↦ argumentsFrom p (xs ++ (x ∷ [])) fs ws | fault k ↦ fault k ]
 
+-- The instruction's number in front of its arguments.
 abbrev pub headed : ℕ → Checked (List ℕ) → Checked Cell
 headed n (fine xs) = fine (cellWith n xs)
 headed n (fault k) = fault k
@@ -136,6 +143,7 @@ lineCell p (w ∷ ws) =
           ]
     ]
 
+-- What a line's bytes say.
 abbrev pub lineOf : Parameters → List ℕ → Checked Cell
 lineOf p l = lineCell p (words l)
 
@@ -149,6 +157,7 @@ abbrev pub wordsOf : Checked Cell → List ℕ
 wordsOf (fine c) = cellWords c
 wordsOf (fault k) = []
 
+-- The words of all lines.
 unfoldable pub linesWords : Parameters → List (List ℕ) → List ℕ
 linesWords p [] = []
 linesWords p (l ∷ ls) = wordsOf (lineOf p l) ++ linesWords p ls
@@ -161,13 +170,15 @@ textReply p text = cond (leb (length (lines text)) (p .t)) (linesReply p 0 (line
 unfoldable pub imageOf : Parameters → List ℕ → List ℕ
 imageOf p text = linesWords p (lines text) ++ replicate (4 * (p .t - length (lines text))) 0
 
--- "6 image slice not 4·T words; 7 text over 65,536 bytes"
+-- "6 image slice not 4·T words"
 abbrev pub lengthCheck : Parameters → List ℕ → Check
 lengthCheck p image = 6 unless (eqb (length image) (4 * p .t))
 
+-- "Load: 1 K, 2 N, 3 S, 4 B, 5 T ..; 6 ..; 7 text over 65,536 bytes"
 unfoldable pub loadChecks : Parameters → (text old : List ℕ) → List Check
 loadChecks p text old = parameterChecks p ++ (lengthCheck p old ∷ 7 unless (leb (length text) 65536) ∷ [])
 
+-- The reply: a refusal with index 0 ("0 in all other refusals"), or what the text says.
 unfoldable pub loadReply : Parameters → (text old : List ℕ) → LoadReply
 loadReply p text old = elim (refusalOf (loadChecks p text old)) [ zero ↦ textReply p text | suc k ↦ Refused (suc k) 0 ]
 
@@ -182,6 +193,7 @@ pub record LoadNumbers : Type 0 where
   pub lines : ℕ
   pub line : ℕ
 
+-- "An accepted load gives 0 and the count of lines." "Every other number that a refused call reports is 0".
 unfoldable pub loadNumbers : LoadReply → LoadNumbers
 loadNumbers (Accepted n) = record { refusal = 0; lines = n; line = 0 }
 loadNumbers (Refused k i) = record { refusal = k; lines = 0; line = i }

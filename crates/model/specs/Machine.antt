@@ -44,15 +44,17 @@ module _ (M : Machine) where
   unfoldable pub lookAt : St → (allowance room : ℕ) → Look
   lookAt s allowance room = look (status s) (ltb allowance (cost s)) (ltb room (length (values s)))
 
-  -- After the first m instructions: the state, the values output so far, the sum of the costs.
+  -- The state "after the first m instructions".
   unfoldable pub after : ℕ → St
   after zero = fresh
   after (suc m) = step (after m)
 
+  -- "the values output so far"
   unfoldable pub outputs : ℕ → List ℤ
   outputs zero = []
   outputs (suc m) = outputs m ++ values (after m)
 
+  -- the sum of the costs of the first m instructions
   unfoldable pub costs : ℕ → ℕ
   costs zero = 0
   costs (suc m) = costs m + cost (after m)

@@ -13,6 +13,7 @@ abbrev pub bytes : String → List ℕ
 bytes String.[] = []
 bytes (String._∷_ c s) = code c ∷ bytes s
 
+-- b is one of the bytes ks.
 abbrev pub among : List ℕ → ℕ → Bool
 among [] b = false
 among (k ∷ ks) b = eqb b k || among ks b
@@ -21,6 +22,7 @@ among (k ∷ ks) b = eqb b k || among ks b
 abbrev pub isBlank : ℕ → Bool
 isBlank b = among (9 ∷ 10 ∷ 13 ∷ 32 ∷ []) b
 
+-- 0 to 9
 abbrev pub isDigit : ℕ → Bool
 isDigit b = leb 48 b && leb b 57
 
@@ -38,6 +40,7 @@ abbrev pub natural : List ℕ → Option ℕ
 natural [] = none
 natural (b ∷ s) = digitsFrom 0 (b ∷ s)
 
+-- A function of what there is, if there is something.
 abbrev pub mapped : {A B : Type 0} → (A → B) → Option A → Option B
 mapped f none = none
 mapped f (some a) = some (f a)

@@ -13,6 +13,7 @@ pub record Check : Type 0 where
   pub number : ℕ
   pub fit : Bool
 
+-- Number n is given unless the arguments are fit: "A refusal is given only under its condition here".
 infix 68 _unless_
 abbrev pub _unless_ : ℕ → Bool → Check
 n unless fit = record { number = n; fit = fit }
@@ -22,7 +23,7 @@ abbrev pub refusalOf : List Check → ℕ
 refusalOf [] = 0
 refusalOf (c ∷ cs) = cond (c .fit) (refusalOf cs) (c .number)
 
--- x is low..high
+-- x is low..high, both included.
 abbrev pub between : (low high x : ℕ) → Bool
 between low high x = leb low x && leb x high
 
@@ -48,6 +49,7 @@ Fit p = refusalOf (parameterChecks p) ≡ 0
 abbrev pub inRange : (m : ℕ) → ℤ → Bool
 inRange m z = leZ (negℤ (pos m)) z && ltZ z (pos m)
 
+-- Two numbers are equal.
 abbrev pub eqZ : ℤ → ℤ → Bool
 eqZ (pos a) (pos b) = eqb a b
 eqZ (pos a) (negsuc b) = false
@@ -59,8 +61,10 @@ abbrev pub booleanOf : Bool → ℤ
 booleanOf true = negsuc 0
 booleanOf false = pos 0
 
+-- A Boolean value is truth.
 abbrev pub isTrue : ℤ → Bool
 isTrue z = eqZ z (booleanOf true)
 
+-- "no other value is Boolean"
 abbrev pub isBoolean : ℤ → Bool
 isBoolean z = eqZ z (booleanOf true) || eqZ z (booleanOf false)

@@ -35,7 +35,7 @@ abbrev pub freshState : Parameters → State
 freshState p =
     record { iar = 0; ircr = 0; shr = pos (p .b) -ℤ pos 1; place = 0; registers = replicate (p .n) (pos 0); cells = replicate (p .s) (pos 0) }
 
--- A state with one thing changed.
+-- A state with one thing changed: IAR, IRCR, SHR, input place, registers, data cells.
 abbrev pub withIAR : ℕ → State → State
 withIAR i s = record { iar = i; ircr = s .ircr; shr = s .shr; place = s .place; registers = s .registers; cells = s .cells }
 
@@ -74,6 +74,7 @@ store w v s =
     cond (eqb (kindOf w) 1) (withRegisters (set (s .registers) (contentOf w) v) s)
     (cond (eqb (kindOf w) 2) (withCells (set (s .cells) (contentOf w) v) s) s)
 
+-- The word of the argument that is written.
 abbrev pub argumentAt : Place → Cell → ℕ
 argumentAt first c = c .first
 argumentAt second c = c .second
@@ -88,6 +89,7 @@ pub data Effect : Type 0 where
 abbrev pub next : State → Effect
 next s = succeeds (withIAR (s .iar + 1) s)
 
+-- A value goes to its target; a return code changes nothing.
 abbrev pub stores : ℕ → State → Answer → Effect
 stores w s (value v) = next (store w v s)
 stores w s (code k) = fails k
@@ -182,6 +184,7 @@ module _ (e : Environment) where
   abbrev pub currentCell : State → Cell
   currentCell s = cellAt (e .image) (s .iar)
 
+  -- What its instruction does.
   abbrev pub currentOperation : State → Operation
   currentOperation s = rowOf (currentCell s .head) .operation
 
@@ -189,12 +192,15 @@ module _ (e : Environment) where
   unfoldable pub stateStatus : State → Status
   stateStatus s = cond (eqb (s .ircr) 0) (cond (eqb (s .iar) (e .parameters .t) || isEmpty (currentCell s)) Status.ended running) Status.failed
 
+  -- The cost of the step.
   unfoldable pub stepCost : State → ℕ
   stepCost s = costOf (e .parameters) (currentCell s)
 
+  -- The values that the step writes.
   unfoldable pub stepValues : State → List ℤ
   stepValues s = writtenBy (currentOperation s) (currentCell s) s
 
+  -- The step.
   unfoldable pub step : State → State
   step s = settled s (execute e (currentOperation s) (currentCell s) s)
 

@@ -14,14 +14,16 @@ kindOf w = w / 2 ^ 30
 abbrev pub contentOf : ℕ → ℕ
 contentOf w = w % 2 ^ 30
 
+-- A word of a kind, with its content.
 abbrev pub wordOf : (kind content : ℕ) → ℕ
 wordOf kind content = kind * 2 ^ 30 + content
 
--- "the number in two's complement", of 30 bits: written and read.
+-- "the number in two's complement", of 30 bits: written,
 abbrev pub numberBits : ℤ → ℕ
 numberBits (pos n) = n
 numberBits (negsuc n) = 2 ^ 30 - suc n
 
+-- and read
 abbrev pub numberOf : ℕ → ℤ
 numberOf v = cond (ltb v (2 ^ 29)) (pos v) (negsuc (2 ^ 30 - suc v))
 
@@ -30,13 +32,14 @@ pub data Argument : Type 0 where
   register special direct : ℕ → Argument
   literal : ℤ → Argument
 
+-- The word of an argument.
 abbrev pub argumentWord : Argument → ℕ
 argumentWord (register r) = wordOf 1 r
 argumentWord (special r) = wordOf 1 r
 argumentWord (direct d) = wordOf 2 d
 argumentWord (literal z) = wordOf 3 (numberBits z)
 
--- "A cell is four consecutive words: a head and three arguments."
+-- Document 01's cell: "A cell is four consecutive words: a head and three arguments."
 pub record Cell : Type 0 where
   pub head : ℕ
   pub first : ℕ
@@ -47,13 +50,15 @@ pub record Cell : Type 0 where
 abbrev pub cellWith : (head : ℕ) (arguments : List ℕ) → Cell
 cellWith h xs = record { head = h; first = getD xs 0 0; second = getD xs 1 0; third = getD xs 2 0 }
 
+-- A cell from its four words, and back.
 abbrev pub cellOf : List ℕ → Cell
 cellOf ws = record { head = getD ws 0 0; first = getD ws 1 0; second = getD ws 2 0; third = getD ws 3 0 }
 
+-- "four consecutive words"
 abbrev pub cellWords : Cell → List ℕ
 cellWords c = c .head ∷ c .first ∷ c .second ∷ c .third ∷ []
 
--- The cell at index i of an image.
+-- The cell at index i of an image ("a lent slice of 4·T unsigned 32-bit words").
 abbrev pub cellAt : List ℕ → ℕ → Cell
 cellAt image i = cellOf (take 4 (drop (4 * i) image))
 
