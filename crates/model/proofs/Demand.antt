@@ -1,16 +1,19 @@
 -- DEMAND 3 of the TAK machine: every list of grants from an accepted start. Assumes nothing.
-use Prim.Native.Nat.{ℕ, zero, suc}
+use Prim.Native.Nat.{ℕ}
 use mathlib.Core.Path.{_≡_, refl, sym, ap, _∙_}
 use mathlib.Core.List.{List, [], _∷_, _++_, map}
 use lib.IntN.{ℤ}
 use lib.ListN.{take}
 use Rattle.model.specs.declared.Parameters.{Parameters}
 use Rattle.model.specs.Parameters.{refusalOf}
-use Rattle.model.specs.Machine.{Machine, after, costs, Priced}
+use Rattle.model.specs.Machine.{Machine}
 use Rattle.model.specs.Grants.{Call, Reply, Account, Result, grant, start, results, final, joined, replies}
 use Rattle.model.specs.Step.{Environment, State, Tak}
 use Rattle.model.specs.Calls.{startChecks, started, Granted, granted, grantedBy, recordOf, grantRefusal}
 use Rattle.model.specs.Demand.{Held, heldAfterStart, gives, leaves, replyOf, joinedOutputs, IsAfter, Demand3}
+use Rattle.model.proofs.Fits.{start-accepted}
+use Rattle.model.proofs.Costs.{priced}
+use Rattle.model.proofs.GrantKeeps.{started-accepted}
 use Rattle.model.proofs.Lists as lists
 
 -- The record and the memory that an account stands for.
@@ -105,3 +108,13 @@ module _ (e : Environment) where
           granted-sum = rw (held, replied-is) (d .granted);
           parameters = rw held;
         }
+
+-- DEMAND 3. After an accepted start, with any input, for every list of grants.
+pub demand3 : (p : Parameters) (image input : List ℕ) (registers cells : List ℤ) (calls : List Call) →
+    refusalOf (startChecks p image registers cells) ≡ 0 →
+    Demand3 (record { parameters = p; image = image; input = input }) (heldAfterStart (started p image registers cells)) calls
+unfolding start
+demand3 p image input registers cells calls h =
+    let e : Environment = record { parameters = p; image = image; input = input } in
+    let fit = start-accepted p image registers cells h .fit in
+    rw (started-accepted e registers cells h) (translate e calls (lists.demand3 (Tak e) (grantRefusal e) (priced e fit) calls))

@@ -1,7 +1,14 @@
 mod Integers
-mod Marked
+mod Fits
+mod Costs
+mod Cells
+mod Ranges
+mod Stack
+mod Keeps
+mod GrantKeeps
 mod Laws
 mod One
 mod Fuel
 mod Lists
 mod Demand
+mod Marked

@@ -53,8 +53,8 @@ started p image registers cells =
       | zero ↦
           record {
             reply = record { refusal = 0; rec = freshRecord p };
-            registers = replicate (length registers) (pos 0);
-            cells = replicate (length cells) (pos 0);
+            registers = replicate (p .n) (pos 0);
+            cells = replicate (p .s) (pos 0);
           }
       | suc k ↦ record { reply = record { refusal = suc k; rec = zeroRecord }; registers = registers; cells = cells }
     ]

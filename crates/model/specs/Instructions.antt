@@ -164,7 +164,7 @@ unfoldable pub directs : Cell → ℕ
 directs c = isDirect (c .first) + isDirect (c .second) + isDirect (c .third)
 
 -- N, S or 1.
-abbrev times : Parameters → Multiplier → ℕ
+abbrev pub times : Parameters → Multiplier → ℕ
 times p one = 1
 times p byRegisters = p .n
 times p byCells = p .s

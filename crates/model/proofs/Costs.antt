@@ -1,0 +1,59 @@
+-- Every step costs at least one cycle. Assumes nothing.
+use Prim.Native.Nat.{ℕ, zero, suc, _-_, _≤_}
+use mathlib.Core.Path.{_≡_, refl}
+use mathlib.Core.Bool.{Bool, true, _&&_}
+use mathlib.Core.List.{List, [], _∷_}
+use native.Mathlib.Nat.{one-le-mul}
+use native.Mathlib.Omega.{arith}
+use lib.Dec.{leb}
+use lib.ListN.{getD}
+use borrow.Author.Tests.{leb-true}
+use Rattle.model.specs.declared.Parameters.{Parameters}
+use Rattle.model.specs.Parameters.{Fit}
+use Rattle.model.specs.Words.{Cell}
+use Rattle.model.specs.Instructions.{Multiplier, one, byRegisters, byCells, Row, rows, rowOf, directs, times, costOf}
+use Rattle.model.specs.Machine.{Priced}
+use Rattle.model.specs.Step.{Environment, Tak, currentCell, stepCost}
+use Rattle.model.proofs.Fits.{both, Limits, limits}
+
+-- No price is 0: of a row, and of a table.
+abbrev arePrices : List ℕ → Bool
+arePrices [] = true
+arePrices (x ∷ xs) = leb 1 x && arePrices xs
+
+abbrev havePrices : List Row → Bool
+havePrices [] = true
+havePrices (r ∷ rs) = arePrices (r .prices) && havePrices rs
+
+rows-priced : havePrices rows ≡ true
+rows-priced = refl
+
+price-pos : (xs : List ℕ) (n : ℕ) → arePrices xs ≡ true → 1 ≤ getD xs n 1
+price-pos [] n h = omega arith
+price-pos (x ∷ xs) zero h = leb-true 1 x (both (leb 1 x) (arePrices xs) h .0)
+price-pos (x ∷ xs) (suc n) h = price-pos xs n (both (leb 1 x) (arePrices xs) h .1)
+
+row-priced : (rs : List Row) (n : ℕ) (d : Row) → havePrices rs ≡ true → arePrices (d .prices) ≡ true →
+    arePrices (getD rs n d .prices) ≡ true
+row-priced [] n d h k = k
+row-priced (r ∷ rs) zero d h k = both (arePrices (r .prices)) (havePrices rs) h .0
+row-priced (r ∷ rs) (suc n) d h k = row-priced rs n d (both (arePrices (r .prices)) (havePrices rs) h .1) k
+
+row-of-priced : (n : ℕ) → arePrices (rowOf n .prices) ≡ true
+unfolding rowOf
+row-of-priced n = row-priced rows (n - 1) _ rows-priced refl
+
+times-pos : (p : Parameters) → Limits p → (x : Multiplier) → 1 ≤ times p x
+times-pos p l one = omega arith
+times-pos p l byRegisters = l .n-low
+times-pos p l byCells = l .s-low
+
+pub cost-pos : (p : Parameters) → Fit p → (c : Cell) → 1 ≤ costOf p c
+unfolding costOf
+cost-pos p f c =
+    one-le-mul (price-pos (rowOf (c .head) .prices) (directs c) (row-of-priced (c .head)))
+    (times-pos p (limits p f) (rowOf (c .head) .multiplier))
+
+pub priced : (e : Environment) → Fit (e .parameters) → Priced (Tak e)
+unfolding stepCost
+priced e f s r = cost-pos (e .parameters) f (currentCell e s)

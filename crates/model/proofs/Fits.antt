@@ -1,0 +1,198 @@
+-- What passed checks say: of the parameters (1 to 5), of start and of grant. Assumes nothing.
+use Prim.Native.Nat.{ℕ, suc, _+_, _*_, _-_, _^_, _≤_}
+use mathlib.Core.Path.{_≡_, refl, sym, ap, _∙_}
+use mathlib.Core.Bool.{Bool, true, false, _&&_, cond}
+use mathlib.Core.List.{List, [], _∷_, _++_}
+use native.Mathlib.Nat.{pow-succ'}
+use native.Mathlib.Omega.{arith}
+use lib.Dec.{eqb, leb}
+use lib.IntN.{ℤ}
+use lib.ListN.{length}
+use lib.Pow.{pow-mono}
+use borrow.Author.Tests.{leb-true, eqb-true}
+use Rattle.model.specs.declared.Parameters.{Parameters}
+use Rattle.model.specs.Parameters.{Check, refusalOf, between, limit, parameterChecks, Fit}
+use Rattle.model.specs.Images.{imageFits}
+use Rattle.model.specs.Grants.{Account, Call}
+use Rattle.model.specs.Step.{Environment, State}
+use Rattle.model.specs.Calls.{startChecks, recordFits, grantChecks, grantRefusal}
+
+-- Two tests that passed, and back.
+pub both : (a b : Bool) → (a && b) ≡ true → (a ≡ true) × (b ≡ true)
+both true b h = (refl, h)
+both false b h = (cc, cc)
+
+pub and-both : {a b : Bool} → a ≡ true → b ≡ true → (a && b) ≡ true
+and-both h k = rw (h, k)
+
+pub is-between : (low high x : ℕ) → between low high x ≡ true → (low ≤ x) × (x ≤ high)
+is-between low high x h = let k = both (leb low x) (leb x high) h in (leb-true low x (k .0), leb-true x high (k .1))
+
+-- No check has the number 0, which says that there is no refusal.
+abbrev pub Numbered : List Check → Type 0
+Numbered [] = Unit {0}
+Numbered (c ∷ cs) = (1 ≤ c .number) × Numbered cs
+
+abbrev pub AllFit : List Check → Type 0
+AllFit [] = Unit {0}
+AllFit (c ∷ cs) = (c .fit ≡ true) × AllFit cs
+
+-- A check that passed, and those after it.
+check-fit : (b : Bool) (x n : ℕ) → 1 ≤ n → cond b x n ≡ 0 → (b ≡ true) × (x ≡ 0)
+check-fit true x n l h = (refl, h)
+check-fit false x n l h = absurd (omega arith)
+
+pub all-fit : (cs : List Check) → Numbered cs → refusalOf cs ≡ 0 → AllFit cs
+all-fit [] n h = tt
+all-fit (c ∷ cs) n h =
+    let k = check-fit (c .fit) (refusalOf cs) (c .number) (n .0) h in
+    (k .0, all-fit cs (n .1) (k .1))
+
+pub no-refusal : (cs : List Check) → AllFit cs → refusalOf cs ≡ 0
+no-refusal [] f = refl
+no-refusal (c ∷ cs) f = rw (f .0) (no-refusal cs (f .1))
+
+pub fit-left : (xs ys : List Check) → AllFit (xs ++ ys) → AllFit xs
+fit-left [] ys f = tt
+fit-left (x ∷ xs) ys f = (f .0, fit-left xs ys (f .1))
+
+pub fit-right : (xs ys : List Check) → AllFit (xs ++ ys) → AllFit ys
+fit-right [] ys f = f
+fit-right (x ∷ xs) ys f = fit-right xs ys (f .1)
+
+pub fit-append : (xs ys : List Check) → AllFit xs → AllFit ys → AllFit (xs ++ ys)
+fit-append [] ys f g = g
+fit-append (x ∷ xs) ys f g = (f .0, fit-append xs ys (f .1) g)
+
+pub numbered-append : (xs ys : List Check) → Numbered xs → Numbered ys → Numbered (xs ++ ys)
+numbered-append [] ys n k = k
+numbered-append (x ∷ xs) ys n k = (n .0, numbered-append xs ys (n .1) k)
+
+pub refusal-left : (xs ys : List Check) → Numbered xs → Numbered ys → refusalOf (xs ++ ys) ≡ 0 → refusalOf xs ≡ 0
+refusal-left xs ys n k h = no-refusal xs (fit-left xs ys (all-fit (xs ++ ys) (numbered-append xs ys n k) h))
+
+pub refusal-right : (xs ys : List Check) → Numbered xs → Numbered ys → refusalOf (xs ++ ys) ≡ 0 → refusalOf ys ≡ 0
+refusal-right xs ys n k h = no-refusal ys (fit-right xs ys (all-fit (xs ++ ys) (numbered-append xs ys n k) h))
+
+-- THE PARAMETERS
+pub record Limits (p : Parameters) : Type 0 where
+  pub k-low : 8 ≤ p .k
+  pub k-high : p .k ≤ 30
+  pub n-low : 1 ≤ p .n
+  pub n-high : p .n ≤ 256
+  pub s-low : 1 ≤ p .s
+  pub s-high : p .s ≤ 4096
+  pub s-value : p .s ≤ limit (p .k) - 1
+  pub b-high : p .b ≤ p .s
+  pub t-low : 1 ≤ p .t
+  pub t-high : p .t ≤ 4096
+  pub t-value : p .t ≤ limit (p .k) - 1
+
+pub parameters-numbered : (p : Parameters) → Numbered (parameterChecks p)
+unfolding parameterChecks
+parameters-numbered p = omega arith
+
+-- A count of cells, which a value can hold.
+counted : (m x : ℕ) → (between 1 4096 x && leb x (m - 1)) ≡ true → (1 ≤ x) × (x ≤ 4096) × (x ≤ m - 1)
+counted m x h =
+    let k = both (between 1 4096 x) (leb x (m - 1)) h in
+    let b = is-between 1 4096 x (k .0) in
+    (b .0, b .1, leb-true x (m - 1) (k .1))
+
+pub limits : (p : Parameters) → Fit p → Limits p
+unfolding parameterChecks
+limits p h =
+    let f = all-fit (parameterChecks p) (parameters-numbered p) h in
+    let k = is-between 8 30 (p .k) (f .0) in
+    let n = is-between 1 256 (p .n) (f .1 .0) in
+    let s = counted (limit (p .k)) (p .s) (f .1 .1 .0) in
+    let t = counted (limit (p .k)) (p .t) (f .1 .1 .1 .1 .0) in
+    record {
+      k-low = k .0;
+      k-high = k .1;
+      n-low = n .0;
+      n-high = n .1;
+      s-low = s .0;
+      s-high = s .1;
+      s-value = s .2;
+      b-high = leb-true (p .b) (p .s) (f .1 .1 .1 .0);
+      t-low = t .0;
+      t-high = t .1;
+      t-value = t .2;
+    }
+
+-- M is 128 to 2^29, and twice M is 2^K.
+pub limit-low : {k : ℕ} → 8 ≤ k → 128 ≤ limit k
+limit-low {k} h = pow-mono {i = 7} {j = k - 1} (omega arith)
+
+pub limit-high : {k : ℕ} → k ≤ 30 → limit k ≤ 2 ^ 29
+limit-high {k} h = pow-mono {i = k - 1} {j = 29} (omega arith)
+
+pub limit-double : {k : ℕ} → 1 ≤ k → 2 * limit k ≡ 2 ^ k
+limit-double {k} h = sym (pow-succ' 2 (k - 1)) ∙ ap (λ (n : ℕ). 2 ^ n) e
+  where
+    e : suc (k - 1) ≡ k
+    e = omega arith
+
+-- START
+pub record StartFits (p : Parameters) (image : List ℕ) (registers cells : List ℤ) : Type 0 where
+  pub fit : Fit p
+  pub image-length : length image ≡ 4 * p .t
+  pub register-count : length registers ≡ p .n
+  pub cell-count : length cells ≡ p .s
+  pub image-fits : imageFits p image ≡ true
+
+module _ (p : Parameters) (image : List ℕ) (registers cells : List ℤ) where
+  pub start-numbered : Numbered (startChecks p image registers cells)
+  unfolding startChecks
+  start-numbered = numbered-append (parameterChecks p) _ (parameters-numbered p) (omega arith)
+
+  pub start-fit : AllFit (startChecks p image registers cells) → StartFits p image registers cells
+  unfolding startChecks
+  start-fit f =
+      let g = fit-right (parameterChecks p) _ f in
+      let k = both (eqb (length registers) (p .n)) (eqb (length cells) (p .s)) (g .1 .0) in
+      record {
+        fit = no-refusal (parameterChecks p) (fit-left (parameterChecks p) _ f);
+        image-length = eqb-true (length image) (4 * p .t) (g .0);
+        register-count = eqb-true (length registers) (p .n) (k .0);
+        cell-count = eqb-true (length cells) (p .s) (k .1);
+        image-fits = g .1 .1 .0;
+      }
+
+  pub start-accepted : refusalOf (startChecks p image registers cells) ≡ 0 → StartFits p image registers cells
+  start-accepted h = start-fit (all-fit (startChecks p image registers cells) start-numbered h)
+
+-- GRANT
+pub record GrantFits (e : Environment) (a : Account State) (c : Call) : Type 0 where
+  pub start : StartFits (e .parameters) (e .image) (a .state .registers) (a .state .cells)
+  pub record-fits : recordFits e a ≡ true
+  pub input-length : length (e .input) ≤ 65536
+  pub cycles : c .cycles ≤ 1_000_000_000
+  pub granted : a .granted + c .cycles ≤ 1_000_000_000_000_000
+
+abbrev ofStart : Environment → Account State → List Check
+ofStart e a = startChecks (e .parameters) (e .image) (a .state .registers) (a .state .cells)
+
+module _ (e : Environment) (a : Account State) (c : Call) where
+  pub grant-numbered : Numbered (grantChecks e a c)
+  unfolding grantChecks
+  grant-numbered =
+      numbered-append (ofStart e a) _ (start-numbered (e .parameters) (e .image) (a .state .registers) (a .state .cells)) (omega arith)
+
+  grant-fit : AllFit (grantChecks e a c) → GrantFits e a c
+  unfolding grantChecks
+  grant-fit f =
+      let g = fit-right (ofStart e a) _ f in
+      let k = both (leb (c .cycles) 1_000_000_000) (leb (a .granted + c .cycles) 1_000_000_000_000_000) (g .1 .1 .0) in
+      record {
+        start = start-fit (e .parameters) (e .image) (a .state .registers) (a .state .cells) (fit-left (ofStart e a) _ f);
+        record-fits = g .0;
+        input-length = leb-true (length (e .input)) 65536 (g .1 .0);
+        cycles = leb-true (c .cycles) 1_000_000_000 (k .0);
+        granted = leb-true (a .granted + c .cycles) 1_000_000_000_000_000 (k .1);
+      }
+
+  pub grant-accepted : grantRefusal e a c ≡ 0 → GrantFits e a c
+  unfolding grantRefusal
+  grant-accepted h = grant-fit (all-fit (grantChecks e a c) grant-numbered h)
