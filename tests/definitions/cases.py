@@ -5,7 +5,7 @@ import random
 import re
 import sys
 
-from model import DIRECT, NAMES, NUMBER, REGISTER, SPECIAL, grant, load, places, read_line, start_refusal
+from model import DIRECT, NAMES, NUMBER, REGISTER, SPECIAL, grant, load, places, read_line, start_refusal, write_decimal
 
 FIELDS = "k n s b t iar ircr shr place granted spent".split()
 ENDINGS = ["Failed", "Ended", "Paused", "OutputFull"]
@@ -172,11 +172,20 @@ def call_grants(p, image):
         record, registers, data = after, registers2, data2
 
 
+def call_decimal():
+    z = rnd.choice([0, 9, 10, -1, -10, 2**31 - 1, -(2**31), rnd.randint(-(2**31), 2**31 - 1), rnd.randint(-2000, 2000)])
+    old = [rnd.randrange(256) for _ in range(rnd.choice([0, 9, 10, 11, 12, 14]))]
+    reply, written = write_decimal(z, old)
+    return "spells (%s) %s" % ("pos %d" % z if z >= 0 else "negsuc %d" % (-z - 1), naturals(old)), integers(list(reply) + written)
+
+
 def calls(count):
     for i in range(count):
         p = random_parameters()
         text = random_text(p, NAMES[i % len(NAMES)])
         old = [7] * (4 * p[4] if p[4] < 20 and chance(0.97) else 5)
+        if i % 5 == 0:
+            yield call_decimal()
         reply, image = load(p, text, old)
         yield "loads (%s) %s %s" % (parameters_term(p), naturals(text), naturals(old)), integers(list(reply) + image)
         if reply[0] == 0:
@@ -211,6 +220,9 @@ starts p image registers cells =
     let x = started p image registers cells in
     (pos (x .reply .refusal) ∷ flat (x .reply .rec)) ++ x .registers ++ x .cells
 
+spells : ℤ → List ℕ → List ℤ
+spells z old = let x = spelled z old in map pos ((x .reply .refusal ∷ x .reply .count ∷ []) ++ x .bytes)
+
 grants : List ℕ → List ℕ → Record → List ℤ → List ℤ → ℕ → List ℤ → List ℤ
 grants image input r registers cells cycles slice =
     let x = granted image input r registers cells (record { cycles = cycles; slice = slice }) in
@@ -242,7 +254,7 @@ def main():
     lines.append(HEAD)
     for i, (computed, said) in enumerate(calls(int(sys.argv[2]))):
         lines.append("case%d : %s ≡ %s" % (i, computed, said))
-        lines.append("unfolding flat loads starts grants xor %s" % " ".join(opened))
+        lines.append("unfolding flat loads starts spells grants xor %s" % " ".join(opened))
         lines.append("case%d = refl\n" % i)
     print("\n".join(lines))
 

@@ -394,3 +394,11 @@ def grant(record, image, text, registers, data, cycles, out):
     after = {**record, **changed}
     wrote = machine.out
     return ending, after, len(wrote), spent - record["spent"], machine.registers, machine.data, wrote + out[len(wrote) :]
+
+
+def write_decimal(value, old):
+    """(refusal, count), bytes."""
+    if len(old) < 11:
+        return (18, 0), old
+    spelled = list(b"%d" % value)
+    return (0, len(spelled)), spelled + old[len(spelled) :]

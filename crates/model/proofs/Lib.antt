@@ -1,14 +1,14 @@
-mod Integers
-mod Fits
-mod Costs
-mod Cells
-mod Ranges
-mod Stack
-mod Keeps
-mod GrantKeeps
-mod Laws
-mod One
-mod Fuel
-mod Lists
-mod Demand
-mod Marked
+pub mod Integers
+pub mod Fits
+pub mod Costs
+pub mod Cells
+pub mod Ranges
+pub mod Stack
+pub mod Keeps
+pub mod GrantKeeps
+pub mod Laws
+pub mod One
+pub mod Fuel
+pub mod Lists
+pub mod Demand
+pub mod Marked
