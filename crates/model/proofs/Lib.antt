@@ -11,4 +11,5 @@ pub mod One
 pub mod Fuel
 pub mod Lists
 pub mod Demand
+pub mod Refusals
 pub mod Marked

@@ -13,7 +13,7 @@ use lib.Signed.{mag, leZ, ltZ, remZ, quotZ, mag-rem}
 use borrow.Author.Tests.{ltb-true, ltb-false, lt-ltb, leb-true, le-leb}
 use Rattle.model.specs.Parameters.{inRange, eqZ, booleanOf, isTrue, isBoolean, limit}
 use Rattle.model.specs.Arithmetic.{Answer, value, code, checked, divide, remainder, negation, logic, bitsOf, signedOf, inverted, bitwise, shiftLeft, shiftRight, shiftRightSigned}
-use Rattle.model.specs.Instructions.{Place, Operation, clearRegisters, clearCells, dumpRegisters, dumpCells, inputs, outputs, pushes, pops, skips, idles, writes, jumps, jumpsOn, Row, rows, rowOf}
+use Rattle.model.specs.Instructions.{Position, Operation, clearRegisters, clearCells, dumpRegisters, dumpCells, inputs, outputs, pushes, pops, skips, idles, writes, jumps, jumpsOn, Row, rows, rowOf}
 use Rattle.model.specs.Calls.{allInRange}
 use Rattle.model.proofs.Fits.{both, and-both, limit-low, limit-double}
 
@@ -201,7 +201,7 @@ row-range k n h =
     (rows-range k (limit k) (omega (arith, limit-low h)) (limit-double (omega arith))) tt
 
 -- The same without `mag`.
-pub writes-in-range : (k n : ℕ) (to : Place) (f : ℕ → ℤ → ℤ → Answer) → 8 ≤ k → rowOf n .operation ≡ writes to f → (x y v : ℤ) →
+pub writes-in-range : (k n : ℕ) (to : Position) (f : ℕ → ℤ → ℤ → Answer) → 8 ≤ k → rowOf n .operation ≡ writes to f → (x y v : ℤ) →
     inRange (limit k) x ≡ true → inRange (limit k) y ≡ true → f (limit k) x y ≡ value v → inRange (limit k) v ≡ true
 writes-in-range k n to f h e x y v p q r =
     let one : 1 ≤ limit k = omega (arith, limit-low h) in

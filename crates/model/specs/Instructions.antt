@@ -14,34 +14,38 @@ use Rattle.model.specs.Words.{Cell, kindOf}
 use Rattle.model.specs.Numbers.{bytes}
 use Rattle.model.specs.Arithmetic.{Answer, value, checked, divide, remainder, negation, logic, bitsOf, signedOf, inverted, bitwise, shiftLeft, shiftRight, shiftRightSigned}
 
--- What a place of an argument allows: 1 register, 2 special register, 4 direct cell, 8 number, or a sum of these.
--- "Special registers may be read wherever a register is read, never written."
+-- FORMS: what an argument's place allows. 1 register, 2 special register, 4 direct cell, 8 number, or a sum of these.
+-- A register that is written.
 abbrev target : ℕ
 target = 1
 
+-- A register that is read: "Special registers may be read wherever a register is read, never written."
 abbrev source : ℕ
 source = 3
 
+-- 003's "register/direct", written and read.
 abbrev targetOrCell : ℕ
 targetOrCell = 5
 
 abbrev sourceOrCell : ℕ
 sourceOrCell = 7
 
+-- 003's "immediate".
 abbrev immediate : ℕ
 immediate = 8
 
+-- 003's "immediate/register".
 abbrev sourceOrImmediate : ℕ
 sourceOrImmediate = 11
 
 -- The argument that is written.
-pub data Place : Type 0 where
-  first second third : Place
+pub data Position : Type 0 where
+  first second third : Position
 
 -- What an instruction does. Functions take M, and the values of the first two arguments; those of a jump its second and third.
 pub data Operation : Type 0 where
   clearRegisters clearCells dumpRegisters dumpCells inputs outputs pushes pops skips idles : Operation
-  writes : Place → (ℕ → ℤ → ℤ → Answer) → Operation
+  writes : Position → (ℕ → ℤ → ℤ → Answer) → Operation
   jumps : (ℤ → ℤ → Bool) → Operation
   jumpsOn : Bool → Operation
 
@@ -49,7 +53,7 @@ pub data Operation : Type 0 where
 pub data Multiplier : Type 0 where
   one byRegisters byCells : Multiplier
 
--- Prices are for no direct argument, one, two.
+-- A row: the name in capitals, the form of each argument, the prices for no direct argument, one, two.
 pub record Row : Type 0 where
   pub name : List ℕ
   pub forms : List ℕ
@@ -57,10 +61,11 @@ pub record Row : Type 0 where
   pub multiplier : Multiplier
   pub operation : Operation
 
--- A row whose price is not multiplied, and one of the four whose price is.
+-- A row whose price is not multiplied.
 abbrev row : String → (forms prices : List ℕ) → Operation → Row
 row name forms prices operation = record { name = bytes name; forms = forms; prices = prices; multiplier = one; operation = operation }
 
+-- One of the four whose price is, which have no arguments.
 abbrev sized : String → ℕ → Multiplier → Operation → Row
 sized name price multiplier operation = record { name = bytes name; forms = []; prices = price ∷ []; multiplier = multiplier; operation = operation }
 

@@ -130,7 +130,7 @@ abbrev pub headed : ℕ → Checked (List ℕ) → Checked Cell
 headed n (fine xs) = fine (cellWith n xs)
 headed n (fault k) = fault k
 
--- "11 unknown instruction, 12 wrong count of arguments", then the arguments. "A line without words is NOP."
+-- "11 unknown instruction, 12 wrong count of arguments", then the arguments. "A line without words is NOP", number 44.
 unfoldable pub lineCell : Parameters → List (List ℕ) → Checked Cell
 lineCell p [] = fine (cellWith 44 [])
 lineCell p (w ∷ ws) =

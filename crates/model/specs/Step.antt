@@ -12,7 +12,7 @@ use Rattle.model.specs.Parameters.{limit, inRange, eqZ, isBoolean, isTru
 use Rattle.model.specs.Words.{Cell, cellAt, isEmpty, kindOf, contentOf, numberOf}
 use Rattle.model.specs.Numbers.{isBlank, number}
 use Rattle.model.specs.Arithmetic.{Answer, value, code}
-use Rattle.model.specs.Instructions.{Place, first, second, third, Operation, clearRegisters, clearCells, dumpRegisters, dumpCells, inputs, outputs, pushes, pops, skips, idles, writes, jumps, jumpsOn, rowOf, costOf}
+use Rattle.model.specs.Instructions.{Position, first, second, third, Operation, clearRegisters, clearCells, dumpRegisters, dumpCells, inputs, outputs, pushes, pops, skips, idles, writes, jumps, jumpsOn, rowOf, costOf}
 use Rattle.model.specs.Machine.{Machine, Status, running}
 
 -- What stays the same throughout a run.
@@ -21,7 +21,7 @@ pub record Environment : Type 0 where
   pub image : List ℕ
   pub input : List ℕ
 
--- "The machine of demand 3 has IAR, IRCR, SHR, input place, registers, data"; the values output so far are its run's.
+-- "The machine of demand 3 has IAR, IRCR, SHR, input place, registers, data"; the values output so far are its run's. `cells` are the data cells.
 pub record State : Type 0 where
   pub iar : ℕ
   pub ircr : ℕ
@@ -75,7 +75,7 @@ store w v s =
     (cond (eqb (kindOf w) 2) (withCells (set (s .cells) (contentOf w) v) s) s)
 
 -- The word of the argument that is written.
-abbrev pub argumentAt : Place → Cell → ℕ
+abbrev pub argumentAt : Position → Cell → ℕ
 argumentAt first c = c .first
 argumentAt second c = c .second
 argumentAt third c = c .third

@@ -63,6 +63,7 @@ pub struct DecimalReply {
 }
 
 impl Record {
+    // The limits of document 01: K is MIN_BITS..MAX_BITS; N, S and T are at least 1, B is at most S; bytes of a text and of an input; cycles.
     pub const MIN_BITS: u32 = 8;
 
     pub const MAX_BITS: u32 = 30;
