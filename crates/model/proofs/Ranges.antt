@@ -9,7 +9,7 @@ use lib.Bits.{bitAnd, bitOr, bitXor, and-lt, or-lt, xor-lt}
 use lib.Dec.{leb, ltb}
 use lib.IntN.{ℤ, pos, negsuc}
 use lib.ListN.{getD, set, replicate}
-use lib.Signed.{mag, leZ, ltZ, remZ, quotZ, mag-rem}
+use lib.Signed.{mag, leZ, ltZ, remZ, mag-rem}
 use borrow.Author.Tests.{ltb-true, ltb-false, lt-ltb, leb-true, le-leb}
 use Rattle.model.specs.Parameters.{inRange, eqZ, booleanOf, isTrue, isBoolean, limit}
 use Rattle.model.specs.Arithmetic.{Answer, value, code, checked, divide, remainder, negation, logic, bitsOf, signedOf, inverted, bitwise, shiftLeft, shiftRight, shiftRightSigned}
@@ -46,7 +46,7 @@ module _ (m : ℕ) (one : 1 ≤ m) where
 
   pub divide-good : (x y : ℤ) → Good m (divide m x y)
   unfolding divide
-  divide-good x y = good-cond m (eqZ y (pos 0)) (code 2) (checked m (quotZ x y)) (λ h. omega arith) (λ h. checked-good (quotZ x y))
+  divide-good x y = good-cond m (eqZ y (pos 0)) (code 2) (checked m _) (λ h. omega arith) (λ h. checked-good _)
 
   pub remainder-good : (x y : ℤ) → mag x < m → Good m (remainder x y)
   unfolding remainder
