@@ -1,4 +1,4 @@
--- Document 01, "Marked runs": K = 8, N = 2, S = 4, B = 2, T = 6. One computed list.
+-- Document 01, "Marked runs", as one computed list, and the decided points as another: K = 8, N = 2, S = 4, B = 2, T = 6. Assumes nothing.
 use Prim.Native.Nat.{ℕ}
 use Prim.Native.String.{String}
 use mathlib.Core.Path.{_≡_, refl}
@@ -13,7 +13,7 @@ use Rattle.model.specs.declared.Outcome.the-variants.{Refused, Stopped}
 use Rattle.model.specs.declared.LoadReply.{LoadReply}
 use Rattle.model.specs.declared.LoadReply.the-variants.{Accepted}
 use Rattle.model.specs.declared.LoadReply.the-variants as load
-use Rattle.model.specs.Parameters.{parameterChecks}
+use Rattle.model.specs.Parameters.{refusalOf, parameterChecks}
 use Rattle.model.specs.Numbers.{bytes, digitsFrom}
 use Rattle.model.specs.Arithmetic.{checked, divide, remainder, negation, logic, bitsOf, signedOf, bitwise, shiftLeft, shiftRight, shiftRightSigned}
 use Rattle.model.specs.Instructions.{rows, rowOf, directs, costOf}
@@ -83,6 +83,10 @@ registers text = left text .registers
 stack : String → List ℤ
 stack text = left text .rec .shr ∷ left text .cells
 
+-- The number of a start with this image.
+starts : List ℕ → List ℕ
+starts image = refusalOf (startChecks p image (zeros 2) (zeros 4)) ∷ []
+
 -- Something computed and what document 01 says of it.
 pub data Mark : Type 0 where
   words : (computed said : List ℕ) → Mark
@@ -93,6 +97,11 @@ pub computed : Mark → Mark
 computed (words a b) = words a a
 computed (values a b) = values a a
 computed (grants a b) = grants a a
+
+pub said : Mark → Mark
+said (words a b) = words b b
+said (values a b) = values b b
+said (grants a b) = grants b b
 
 pub marks : List Mark
 marks =
@@ -119,11 +128,48 @@ marks =
     ((3 ∷ 0 ∷ 52 ∷ []) ∷ (3 ∷ 0 ∷ 0 ∷ []) ∷ (2 ∷ 1 ∷ 51 ∷ []) ∷ [])
     ∷ []
 
-pub said : Mark → Mark
-said (words a b) = words b b
-said (values a b) = values b b
-said (grants a b) = grants b b
-
 pub marked-runs : map computed marks ≡ map said marks
 unfolding firstCell reply loads calls zeros from answers spends prints left ends registers stack computed marks said parameterChecks digitsFrom checked divide remainder negation logic bitsOf signedOf bitwise shiftLeft shiftRight shiftRightSigned rowOf directs costOf linesFrom wordsFrom sameWord lookupFrom names specialOf plain argument allows isWithin argumentsFrom lineCell linesReply linesWords textReply imageOf loadChecks loadReply wordFits wordsFit cellFits allZero cellsFit look lookAt handBack refuse advance loop run accept grant registerValue valueOf store jumpTo push pop blanksOf tokenOf input execute stateStatus stepCost stepValues step granted started startChecks recordFits grantChecks grantRefusal gives leaves joinedOutputs
 marked-runs = refl
+
+-- Points that the papers leave open, as docs/DECISIONS.md decides them.
+pub decisions : List Mark
+decisions =
+    -- lines and comments
+    words (loads "") (0 ∷ 0 ∷ [])
+    ∷ words (loads "\n") (0 ∷ 1 ∷ [])
+    ∷ words (loads "NOP\n\r") (0 ∷ 2 ∷ [])
+    ∷ words (firstCell "SET R0 5/2") (0x8 ∷ 0x40000000 ∷ 0xC0000005 ∷ 0 ∷ [])
+    ∷ words (loads "NOP\nN/OP") (11 ∷ 1 ∷ [])
+    -- the order of 11 to 14
+    ∷ words (loads "ADD ?? ??") (12 ∷ 0 ∷ [])
+    ∷ words (loads "ADD R99 ?? R0") (14 ∷ 0 ∷ [])
+    ∷ words (loads "ADD ?? R99 R0") (13 ∷ 0 ∷ [])
+    ∷ words (loads "SET R0 R999") (13 ∷ 0 ∷ [])
+    -- registers in a text
+    ∷ words (loads "OUT R256") (14 ∷ 0 ∷ [])
+    ∷ words (loads "OUT R-1") (13 ∷ 0 ∷ [])
+    ∷ words (loads "OUT DM") (13 ∷ 0 ∷ [])
+    ∷ words (loads "INC SHR 1") (13 ∷ 0 ∷ [])
+    ∷ words (loads "RSL IAR") (13 ∷ 0 ∷ [])
+    -- numbers of any length
+    ∷ words (firstCell "SET R0 +0000000000000000000000000000000000000007") (0x8 ∷ 0x40000000 ∷ 0xC0000007 ∷ 0 ∷ [])
+    ∷ words (loads "SET R0 99999999999999999999999999999999999999999") (14 ∷ 0 ∷ [])
+    -- jump targets fail when taken, and only then
+    ∷ words (loads "JMP -5") (0 ∷ 1 ∷ [])
+    ∷ words (ends "JMP -5") (1 ∷ 0 ∷ 4 ∷ [])
+    ∷ words (ends "JMP 6") (1 ∷ 0 ∷ 4 ∷ [])
+    ∷ words (ends "JMPT 99 R0") (0 ∷ 1 ∷ 6 ∷ [])
+    ∷ words (ends "SET R0 5\nJMPT 99 R0") (2 ∷ 1 ∷ 17 ∷ [])
+    -- a number's word is extended to 30 bits, not to K
+    ∷ words (starts (0x8 ∷ 0x40000000 ∷ 0xFFFFFFF6 ∷ 0 ∷ replicate 20 0)) (0 ∷ [])
+    ∷ words (starts (0x8 ∷ 0x40000000 ∷ 0xC00000F6 ∷ 0 ∷ replicate 20 0)) (10 ∷ [])
+    -- -13 DIV -10; special registers cost what registers cost; IN with nothing left
+    ∷ values (registers "SET R0 -13\nSET R1 -10\nDIV R0 R1 R1") (negsuc 12 ∷ pos 1 ∷ [])
+    ∷ words (ends "OUT IAR\nMOV IAR R0") (0 ∷ 2 ∷ 53 ∷ [])
+    ∷ words (ends "IN R0") (3 ∷ 0 ∷ 51 ∷ [])
+    ∷ []
+
+pub decided-points : map computed decisions ≡ map said decisions
+unfolding firstCell reply loads calls zeros from answers spends prints left ends registers stack computed decisions said starts parameterChecks digitsFrom checked divide remainder negation logic bitsOf signedOf bitwise shiftLeft shiftRight shiftRightSigned rowOf directs costOf linesFrom wordsFrom sameWord lookupFrom names specialOf plain argument allows isWithin argumentsFrom lineCell linesReply linesWords textReply imageOf loadChecks loadReply wordFits wordsFit cellFits allZero cellsFit look lookAt handBack refuse advance loop run accept grant registerValue valueOf store jumpTo push pop blanksOf tokenOf input execute stateStatus stepCost stepValues step granted started startChecks recordFits grantChecks grantRefusal gives leaves joinedOutputs
+decided-points = refl
