@@ -124,6 +124,7 @@ marks =
     ∷ words (loads "MOV R0 IAR") (13 ∷ 0 ∷ [])
     ∷ values (prints "SET R0 13\nSET R1 -10\nDIV R0 R1 R1\nOUT R1" (1_000_000_000 ∷ [])) (negsuc 0 ∷ [])
     ∷ words (ends "SET R0 13\nSET R1 -10\nDIV R0 R1 R1\nOUT R1") (0 ∷ 4 ∷ 103 ∷ [])
+    ∷ grants (spends "SET R0 13\nSET R1 -10\nDIV R0 R1 R1\nOUT R1" (1_000_000_000 ∷ [])) ((2 ∷ 1 ∷ 103 ∷ []) ∷ [])
     ∷ grants (spends "SET R0 13\nSET R1 -10\nDIV R0 R1 R1\nOUT R1" (52 ∷ 50 ∷ 1 ∷ []))
     ((3 ∷ 0 ∷ 52 ∷ []) ∷ (3 ∷ 0 ∷ 0 ∷ []) ∷ (2 ∷ 1 ∷ 51 ∷ []) ∷ [])
     ∷ []
