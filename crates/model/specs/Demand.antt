@@ -62,15 +62,19 @@ module _ (e : Environment) where
     pub count : h .rec .spent ≡ costs (Tak e) m
 
   module _ (from : Held) (calls : List Call) where
+    -- the record and memory after the list
     abbrev last : Held
     last = leaves (e .image) (e .input) from calls
 
+    -- what each grant gave
     abbrev given : List Granted
     given = gives (e .image) (e .input) from calls
 
+    -- what each grant replied
     abbrev replied : List Reply
     replied = map replyOf given
 
+    -- DEMAND 3 of the list of grants `calls`, which starts from the record and memory `from`.
     pub record Demand3 : Type 0 where
       -- "there is exactly one m such that"
       pub m : ℕ

@@ -23,10 +23,11 @@ target = 1
 abbrev source : ℕ
 source = 3
 
--- 003's "register/direct", written and read.
+-- 003's "register/direct", where it is written.
 abbrev targetOrCell : ℕ
 targetOrCell = 5
 
+-- 003's "register/direct", where it is read.
 abbrev sourceOrCell : ℕ
 sourceOrCell = 7
 
