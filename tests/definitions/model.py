@@ -1,4 +1,4 @@
-"""The TAK machine, written from documents 003 and 01 alone: what the definitions of crates/model/specs are compared with."""
+"""The TAK machine, written from documents 003 and 01 and not from the definitions of crates/model/specs, which are compared with it."""
 
 NAMES = (
     "CLEAR_REG CLEAR_DATA_MEM DUMP_REG DUMP_DATA_MEM IN OUT MOV SET PUSH POP SETT SETF NOT AND OR XOR NAND NOR NEG ABS ADD SUB MUL DIV MOD"
