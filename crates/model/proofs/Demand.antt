@@ -7,13 +7,14 @@ use lib.ListN.{take}
 use Rattle.model.specs.declared.Parameters.{Parameters}
 use Rattle.model.specs.Parameters.{refusalOf}
 use Rattle.model.specs.Machine.{Machine}
-use Rattle.model.specs.Grants.{Call, Reply, Account, Result, grant, start, results, final, joined, replies}
+use Rattle.model.specs.Grants.{Call, Reply, Account, Result, grant}
 use Rattle.model.specs.Step.{Environment, State, Tak}
 use Rattle.model.specs.Calls.{startChecks, started, Granted, granted, grantedBy, recordOf, grantRefusal}
 use Rattle.model.specs.Demand.{Held, heldAfterStart, gives, leaves, replyOf, joinedOutputs, IsAfter, Demand3}
 use Rattle.model.proofs.Fits.{start-accepted}
 use Rattle.model.proofs.Costs.{priced}
 use Rattle.model.proofs.GrantKeeps.{started-accepted}
+use Rattle.model.proofs.Lists.{start, results, final, joined, replies}
 use Rattle.model.proofs.Lists as lists
 
 -- The record and the memory that an account stands for.

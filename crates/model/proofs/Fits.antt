@@ -1,7 +1,7 @@
 -- What passed checks say: of the parameters (1 to 5), of start and of grant. Assumes nothing.
 use Prim.Native.Nat.{ℕ, suc, _+_, _*_, _-_, _^_, _≤_}
 use mathlib.Core.Path.{_≡_, refl, sym, ap, _∙_}
-use mathlib.Core.Bool.{Bool, true, false, _&&_, cond}
+use mathlib.Core.Bool.{Bool, true, false, _&&_, cond, and-eq-true-iff}
 use mathlib.Core.List.{List, [], _∷_, _++_}
 use native.Mathlib.Nat.{pow-succ'}
 use native.Mathlib.Omega.{arith}
@@ -19,11 +19,15 @@ use Rattle.model.specs.Calls.{startChecks, recordFits, grantChecks, gran
 
 -- Two tests that passed, and back.
 pub both : (a b : Bool) → (a && b) ≡ true → (a ≡ true) × (b ≡ true)
-both true b h = (refl, h)
-both false b h = (cc, cc)
+both a b h = and-eq-true-iff a b .0 h
 
 pub and-both : {a b : Bool} → a ≡ true → b ≡ true → (a && b) ≡ true
-and-both h k = rw (h, k)
+and-both {a} {b} h k = and-eq-true-iff a b .1 (h, k)
+
+-- What holds of both parts of a choice holds of it.
+pub by-cond : {A : Type 0} (P : A → Type 0) (b : Bool) (x y : A) → (b ≡ true → P x) → (b ≡ false → P y) → P (cond b x y)
+by-cond P true x y f g = f refl
+by-cond P false x y f g = g refl
 
 pub is-between : (low high x : ℕ) → between low high x ≡ true → (low ≤ x) × (x ≤ high)
 is-between low high x h = let k = both (leb low x) (leb x high) h in (leb-true low x (k .0), leb-true x high (k .1))
@@ -60,19 +64,9 @@ pub fit-right : (xs ys : List Check) → AllFit (xs ++ ys) → AllFit ys
 fit-right [] ys f = f
 fit-right (x ∷ xs) ys f = fit-right xs ys (f .1)
 
-pub fit-append : (xs ys : List Check) → AllFit xs → AllFit ys → AllFit (xs ++ ys)
-fit-append [] ys f g = g
-fit-append (x ∷ xs) ys f g = (f .0, fit-append xs ys (f .1) g)
-
 pub numbered-append : (xs ys : List Check) → Numbered xs → Numbered ys → Numbered (xs ++ ys)
 numbered-append [] ys n k = k
 numbered-append (x ∷ xs) ys n k = (n .0, numbered-append xs ys (n .1) k)
-
-pub refusal-left : (xs ys : List Check) → Numbered xs → Numbered ys → refusalOf (xs ++ ys) ≡ 0 → refusalOf xs ≡ 0
-refusal-left xs ys n k h = no-refusal xs (fit-left xs ys (all-fit (xs ++ ys) (numbered-append xs ys n k) h))
-
-pub refusal-right : (xs ys : List Check) → Numbered xs → Numbered ys → refusalOf (xs ++ ys) ≡ 0 → refusalOf ys ≡ 0
-refusal-right xs ys n k h = no-refusal ys (fit-right xs ys (all-fit (xs ++ ys) (numbered-append xs ys n k) h))
 
 -- THE PARAMETERS
 pub record Limits (p : Parameters) : Type 0 where

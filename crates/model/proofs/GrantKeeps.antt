@@ -12,12 +12,13 @@ use lib.Signed.{leZ}
 use borrow.Author.Tests.{ltb-false, leb-true, le-leb}
 use Rattle.model.specs.Parameters.{Fit, refusalOf}
 use Rattle.model.specs.Machine.{Machine, running, Look, stops, goes, lookAt}
-use Rattle.model.specs.Grants.{Call, Account, Standing, handBack, refuse, advance, loop, run, accept, grant, final}
+use Rattle.model.specs.Grants.{Call, Account, Standing, handBack, refuse, advance, loop, run, accept, grant}
 use Rattle.model.specs.Step.{Environment, State, Tak, freshState}
 use Rattle.model.specs.Calls.{freshRecord, startChecks, Started, started, allInRange, recordFits, grantRefusal, accountOf}
 use Rattle.model.proofs.Fits.{and-both, GrantFits, start-accepted, grant-accepted}
 use Rattle.model.proofs.Laws.{look-goes}
 use Rattle.model.proofs.One.{loop-stops, loop-goes}
+use Rattle.model.proofs.Lists.{final}
 use Rattle.model.proofs.Lists as lists
 use Rattle.model.proofs.Keeps.{limitOf, Sound, step-keeps, fresh-sound}
 

@@ -20,9 +20,9 @@ use Rattle.model.specs.Images.{imageFits}
 use Rattle.model.specs.Machine.{Status, running}
 use Rattle.model.specs.Step.{Environment, State, freshState, withIAR, withIRCR, withSHR, withPlace, withRegisters, withCells, registerValue, valueOf, store, argumentAt, Effect, succeeds, fails, next, stores, jumpTo, push, pop, blanksOf, tokenOf, inputNumber, inputAnswer, input, execute, settled, currentCell, currentOperation, stateStatus, step}
 use Rattle.model.specs.Calls.{allInRange}
-use Rattle.model.proofs.Fits.{both, Limits, limits, limit-low}
+use Rattle.model.proofs.Fits.{both, by-cond, Limits, limits, limit-low}
 use Rattle.model.proofs.Cells.{cell-fits, Readable, CellReadable, cell-readable}
-use Rattle.model.proofs.Ranges.{range-mag, mag-range, Good, good-cond, WritesRange, row-range, getD-range, set-range, replicate-range}
+use Rattle.model.proofs.Ranges.{range-mag, mag-range, Good, WritesRange, row-range, getD-range, set-range, replicate-range}
 use Rattle.model.proofs.Stack.{raised-low, raised-high, lowered-high, lowered-low, head-mag, heads}
 
 abbrev pub limitOf : Environment → ℕ
@@ -46,10 +46,6 @@ record Going (e : Environment) (s : State) : Type 0 where
   within : s .iar < e .parameters .t
 
 -- READING: what a cell that fits reads of a sound state is in range.
-mag-cond : (m : ℕ) (b : Bool) (x y : ℤ) → (b ≡ true → mag x < m) → (b ≡ false → mag y < m) → mag (cond b x y) < m
-mag-cond m true x y f g = f refl
-mag-cond m false x y f g = g refl
-
 module _ (e : Environment) (l : Limits (e .parameters)) where
   one : 1 ≤ limitOf e
   one = omega (arith, limit-low (l .k-low))
@@ -57,19 +53,19 @@ module _ (e : Environment) (l : Limits (e .parameters)) where
   register-mag : (s : State) → Sound e s → (r : ℕ) → mag (registerValue s r) < limitOf e
   unfolding registerValue
   register-mag s h r =
-      mag-cond (limitOf e) (eqb r 256) (pos (s .iar)) _ (λ q. omega (arith, h .iar, l .t-value, one))
-      (λ q. mag-cond (limitOf e) (eqb r 257) (pos (s .ircr)) _ (λ q. omega (arith, h .ircr, limit-low (l .k-low)))
-      (λ q. mag-cond (limitOf e) (eqb r 258) (s .shr) (getD (s .registers) r (pos 0))
+      by-cond (λ z. mag z < limitOf e) (eqb r 256) (pos (s .iar)) _ (λ q. omega (arith, h .iar, l .t-value, one))
+      (λ q. by-cond (λ z. mag z < limitOf e) (eqb r 257) (pos (s .ircr)) _ (λ q. omega (arith, h .ircr, limit-low (l .k-low)))
+      (λ q. by-cond (λ z. mag z < limitOf e) (eqb r 258) (s .shr) (getD (s .registers) r (pos 0))
       (λ q. omega (arith, head-mag (e .parameters .b) (e .parameters .s) (s .shr) (h .low) (h .high), l .s-value, one))
       (λ q. getD-range (limitOf e) (s .registers) r one (h .registers))))
 
   pub value-mag : (s : State) → Sound e s → (w : ℕ) → Readable (e .parameters) w → mag (valueOf s w) < limitOf e
   unfolding valueOf
   value-mag s h w r =
-      mag-cond (limitOf e) (eqb (kindOf w) 1) (registerValue s (contentOf w)) _ (λ q. register-mag s h (contentOf w))
-      (λ q. mag-cond (limitOf e) (eqb (kindOf w) 2) (getD (s .cells) (contentOf w) (pos 0)) _
+      by-cond (λ z. mag z < limitOf e) (eqb (kindOf w) 1) (registerValue s (contentOf w)) _ (λ q. register-mag s h (contentOf w))
+      (λ q. by-cond (λ z. mag z < limitOf e) (eqb (kindOf w) 2) (getD (s .cells) (contentOf w) (pos 0)) _
       (λ q. getD-range (limitOf e) (s .cells) (contentOf w) one (h .cells))
-      (λ q. mag-cond (limitOf e) (eqb (kindOf w) 3) (numberOf (contentOf w)) (pos 0)
+      (λ q. by-cond (λ z. mag z < limitOf e) (eqb (kindOf w) 3) (numberOf (contentOf w)) (pos 0)
       (λ q. range-mag (limitOf e) (numberOf (contentOf w)) one (r (eqb-true (kindOf w) 3 q)))
       (λ q. one)))
 
@@ -119,14 +115,6 @@ abbrev Lands : Environment → Effect → Type 0
 Lands e (succeeds s) = Sound e s
 Lands e (fails k) = k ≤ 3
 
-lands-cond : (e : Environment) (b : Bool) (x y : Effect) → (b ≡ true → Lands e x) → (b ≡ false → Lands e y) → Lands e (cond b x y)
-lands-cond e true x y f g = f refl
-lands-cond e false x y f g = g refl
-
-going-cond : (e : Environment) (b : Bool) (x y : State) → Going e x → Going e y → Going e (cond b x y)
-going-cond e true x y f g = f
-going-cond e false x y f g = g
-
 settled-sound : (e : Environment) (s : State) → Sound e s → (f : Effect) → Lands e f → Sound e (settled s f)
 settled-sound e s h (succeeds s′) k = ircr-sound k 0 (omega arith)
 settled-sound e s h (fails c) k = ircr-sound h c k
@@ -166,15 +154,15 @@ input-good m one (b ∷ s) = go (number (b ∷ s))
   where
     go : (o : Option ℤ) → Good m (inputNumber m o)
     go none = omega arith
-    go (some z) = good-cond m (inRange m z) (value z) (code 2) (range-mag m z one) (λ h. omega arith)
+    go (some z) = by-cond (Good m) (inRange m z) (value z) (code 2) (range-mag m z one) (λ h. omega arith)
 
 -- EACH CLASS
 module _ (e : Environment) (l : Limits (e .parameters)) (s : State) (g : Going e s) where
   store-going : (w : ℕ) (v : ℤ) → mag v < limitOf e → Going e (store w v s)
   unfolding store
   store-going w v h =
-      going-cond e (eqb (kindOf w) 1) _ _ (record { sound = set-register l (g .sound) (contentOf w) v h; within = g .within })
-      (going-cond e (eqb (kindOf w) 2) _ _ (record { sound = set-cell l (g .sound) (contentOf w) v h; within = g .within }) g)
+      by-cond (Going e) (eqb (kindOf w) 1) _ _ (λ q. record { sound = set-register l (g .sound) (contentOf w) v h; within = g .within })
+      (λ q. by-cond (Going e) (eqb (kindOf w) 2) _ _ (λ q. record { sound = set-cell l (g .sound) (contentOf w) v h; within = g .within }) (λ q. g))
 
   next-lands : Lands e (next s)
   next-lands = iar-sound (g .sound) (s .iar + 1) (omega arith)
@@ -182,7 +170,7 @@ module _ (e : Environment) (l : Limits (e .parameters)) (s : State) (g : Going e
   jump-lands : (z : ℤ) → Lands e (jumpTo e z s)
   unfolding jumpTo
   jump-lands z =
-      lands-cond e (nonNeg z && ltb (natAbs z) (e .parameters .t)) _ _ (λ h. iar-sound (g .sound) (natAbs z) (target h)) (λ h. omega arith)
+      by-cond (Lands e) (nonNeg z && ltb (natAbs z) (e .parameters .t)) _ _ (λ h. iar-sound (g .sound) (natAbs z) (target h)) (λ h. omega arith)
     where
       target : (nonNeg z && ltb (natAbs z) (e .parameters .t)) ≡ true → natAbs z ≤ e .parameters .t
       target h = omega (arith, ltb-true (natAbs z) (e .parameters .t) (both (nonNeg z) _ h .1))
@@ -194,7 +182,7 @@ module _ (e : Environment) (l : Limits (e .parameters)) (s : State) (g : Going e
 
   push-lands : (w : ℕ) → Readable (e .parameters) w → Lands e (push (e .parameters) w s)
   unfolding push
-  push-lands w r = lands-cond e (eqZ (sucℤ (s .shr)) (pos (e .parameters .s))) _ _ (λ h. omega arith) (λ h. go (sound h))
+  push-lands w r = by-cond (Lands e) (eqZ (sucℤ (s .shr)) (pos (e .parameters .s))) _ _ (λ h. omega arith) (λ h. go (sound h))
     where
       raised : State
       raised = withSHR (sucℤ (s .shr)) s
@@ -212,7 +200,7 @@ module _ (e : Environment) (l : Limits (e .parameters)) (s : State) (g : Going e
   pop-lands : (w : ℕ) → Lands e (pop (e .parameters) w s)
   unfolding pop
   pop-lands w =
-      lands-cond e (eqZ (s .shr) (pos (e .parameters .b) -ℤ pos 1)) _ _ (λ h. omega arith)
+      by-cond (Lands e) (eqZ (s .shr) (pos (e .parameters .b) -ℤ pos 1)) _ _ (λ h. omega arith)
       (λ h. go (store-going e l s g w v (getD-range (limitOf e) (s .cells) (natAbs (s .shr)) (one e l) (g .sound .cells))) h)
     where
       v : ℤ
@@ -259,11 +247,11 @@ module _ (e : Environment) (l : Limits (e .parameters)) (s : State) (g : Going e
       stores-lands e l s g (argumentAt to c) (f (limitOf e) (valueOf s (c .first)) (valueOf s (c .second)))
       (k (valueOf s (c .first)) (valueOf s (c .second)) x y)
   execute-lands (jumps test) c k r =
-      lands-cond e (test (valueOf s (c .second)) (valueOf s (c .third))) _ _ (λ h. jump-lands e l s g (valueOf s (c .first)))
+      by-cond (Lands e) (test (valueOf s (c .second)) (valueOf s (c .third))) _ _ (λ h. jump-lands e l s g (valueOf s (c .first)))
       (λ h. next-lands e l s g)
   execute-lands (jumpsOn b) c k r =
-      lands-cond e (isBoolean (valueOf s (c .second))) _ _
-      (λ h. lands-cond e (Bool·beq (isTrue (valueOf s (c .second))) b) _ _ (λ h. jump-lands e l s g (valueOf s (c .first)))
+      by-cond (Lands e) (isBoolean (valueOf s (c .second))) _ _
+      (λ h. by-cond (Lands e) (Bool·beq (isTrue (valueOf s (c .second))) b) _ _ (λ h. jump-lands e l s g (valueOf s (c .first)))
       (λ h. next-lands e l s g)) (λ h. omega arith)
 
 -- A state that runs: IRCR is 0, IAR is not T, and its cell is not empty.

@@ -6,12 +6,42 @@ use mathlib.Core.Option.{Option, none, some}
 use native.Mathlib.Omega.{arith}
 use native.Mathlib.Nat.{le-refl}
 use lib.IntN.{ℤ}
+use lib.ListN.{take}
 use Rattle.model.specs.declared.Ending.{Ending}
 use Rattle.model.specs.declared.Ending.the-variants.{OutputFull}
 use Rattle.model.specs.Machine.{Machine, after, outputs, costs, Reaches, Largest, Priced}
-use Rattle.model.specs.Grants.{Account, start, Call, Result, Reply, lastEnding, accountAt, total, joined, accept, refuse, grant, results, final, replies, Works, nothing, refuses, accepts}
+use Rattle.model.specs.Grants.{Account, Call, Result, Reply, lastEnding, accountAt, total, accept, refuse, grant, Works, nothing, refuses, accepts}
 use Rattle.model.proofs.Laws.{costs-inj, largest-none}
 use Rattle.model.proofs.One.{Accepted, accept-runs, runs-only}
+
+module _ {St : Type 0} where
+  -- The replies of a list.
+  unfoldable pub replies : List (Result St) → List Reply
+  replies [] = []
+  replies (x ∷ xs) = x .reply ∷ replies xs
+
+  -- The values that the grants wrote, in order, each as it stood in its slice.
+  unfoldable pub joined : List (Result St) → List ℤ
+  joined [] = []
+  joined (x ∷ xs) = take (x .reply .count) (x .slice) ++ joined xs
+
+module _ (M : Machine) where
+  open Machine M using (St, fresh)
+
+  -- "the state that start makes", with nothing granted or spent
+  unfoldable pub start : Account St
+  start = record { state = fresh; granted = 0; spent = 0 }
+
+  module _ (refusal : Account St → Call → ℕ) where
+    -- A list of grants: each gets the account that the one before it left.
+    unfoldable pub results : Account St → List Call → List (Result St)
+    results a [] = []
+    results a (c ∷ cs) = grant M refusal a c ∷ results (grant M refusal a c .account) cs
+
+    -- The record and memory that a list leaves.
+    unfoldable pub final : Account St → List Call → Account St
+    final a [] = a
+    final a (c ∷ cs) = final (grant M refusal a c .account) cs
 
 module _ (M : Machine) where
   open Machine M using (St)

@@ -1,6 +1,6 @@
 -- What an instruction writes is within -M..M-1. Assumes nothing.
 use Prim.Native.Nat.{ℕ, zero, suc, _+_, _*_, _-_, _/_, _^_, _≤_, _<_}
-use mathlib.Core.Path.{_≡_, refl, subst}
+use mathlib.Core.Path.{_≡_, refl}
 use mathlib.Core.Bool.{Bool, true, false, not, _&&_, cond}
 use mathlib.Core.List.{List, [], _∷_}
 use native.Mathlib.Nat.{mod-lt, lt-of-le-of-lt}
@@ -13,9 +13,9 @@ use lib.Signed.{mag, leZ, ltZ, remZ, mag-rem}
 use borrow.Author.Tests.{ltb-true, ltb-false, lt-ltb, leb-true, le-leb}
 use Rattle.model.specs.Parameters.{inRange, eqZ, booleanOf, isTrue, isBoolean, limit}
 use Rattle.model.specs.Arithmetic.{Answer, value, code, checked, divide, remainder, negation, logic, bitsOf, signedOf, inverted, bitwise, shiftLeft, shiftRight, shiftRightSigned}
-use Rattle.model.specs.Instructions.{Position, Operation, clearRegisters, clearCells, dumpRegisters, dumpCells, inputs, outputs, pushes, pops, skips, idles, writes, jumps, jumpsOn, Row, rows, rowOf}
+use Rattle.model.specs.Instructions.{Operation, clearRegisters, clearCells, dumpRegisters, dumpCells, inputs, outputs, pushes, pops, skips, idles, writes, jumps, jumpsOn, Row, rows, rowOf}
 use Rattle.model.specs.Calls.{allInRange}
-use Rattle.model.proofs.Fits.{both, and-both, limit-low, limit-double}
+use Rattle.model.proofs.Fits.{both, and-both, by-cond, limit-low, limit-double}
 
 -- A value is in range where its `mag` is below M: n for n, and n for -(n + 1).
 pub range-mag : (m : ℕ) (z : ℤ) → 1 ≤ m → inRange m z ≡ true → mag z < m
@@ -33,24 +33,19 @@ abbrev pub Good : ℕ → Answer → Type 0
 Good m (value v) = mag v < m
 Good m (code k) = k ≤ 3
 
--- A choice between two answers.
-pub good-cond : (m : ℕ) (b : Bool) (x y : Answer) → (b ≡ true → Good m x) → (b ≡ false → Good m y) → Good m (cond b x y)
-good-cond m true x y f g = f refl
-good-cond m false x y f g = g refl
-
 -- THE CLASSES
 module _ (m : ℕ) (one : 1 ≤ m) where
   pub checked-good : (z : ℤ) → Good m (checked m z)
   unfolding checked
-  checked-good z = good-cond m (inRange m z) (value z) (code 1) (range-mag m z one) (λ h. omega arith)
+  checked-good z = by-cond (Good m) (inRange m z) (value z) (code 1) (range-mag m z one) (λ h. omega arith)
 
   pub divide-good : (x y : ℤ) → Good m (divide m x y)
   unfolding divide
-  divide-good x y = good-cond m (eqZ y (pos 0)) (code 2) (checked m _) (λ h. omega arith) (λ h. checked-good _)
+  divide-good x y = by-cond (Good m) (eqZ y (pos 0)) (code 2) (checked m _) (λ h. omega arith) (λ h. checked-good _)
 
   pub remainder-good : (x y : ℤ) → mag x < m → Good m (remainder x y)
   unfolding remainder
-  remainder-good x y h = good-cond m (eqZ y (pos 0)) (code 2) (value (remZ x y)) (λ k. omega arith) (λ k. lt-of-le-of-lt (mag-rem x y) h)
+  remainder-good x y h = by-cond (Good m) (eqZ y (pos 0)) (code 2) (value (remZ x y)) (λ k. omega arith) (λ k. lt-of-le-of-lt (mag-rem x y) h)
 
   pub boolean-mag : (b : Bool) → mag (booleanOf b) < m
   boolean-mag true = one
@@ -60,13 +55,13 @@ module _ (m : ℕ) (one : 1 ≤ m) where
   unfolding negation
   negation-good x =
       let b = not (isTrue x) in
-      good-cond m (isBoolean x) (value (booleanOf b)) (code 1) (λ h. boolean-mag b) (λ h. omega arith)
+      by-cond (Good m) (isBoolean x) (value (booleanOf b)) (code 1) (λ h. boolean-mag b) (λ h. omega arith)
 
   pub logic-good : (f : Bool → Bool → Bool) (x y : ℤ) → Good m (logic f x y)
   unfolding logic
   logic-good f x y =
       let b = f (isTrue x) (isTrue y) in
-      good-cond m (isBoolean x && isBoolean y) (value (booleanOf b)) (code 1) (λ h. boolean-mag b) (λ h. omega arith)
+      by-cond (Good m) (isBoolean x && isBoolean y) (value (booleanOf b)) (code 1) (λ h. boolean-mag b) (λ h. omega arith)
 
   -- K bits, and back.
   pub bits-lt : (z : ℤ) → mag z < m → bitsOf m z < 2 * m
@@ -199,14 +194,6 @@ unfolding rowOf
 row-range k n h =
     all-rows (λ r. WritesRange (limit k) (r .operation)) rows (n - 1) _
     (rows-range k (limit k) (omega (arith, limit-low h)) (limit-double (omega arith))) tt
-
--- The same without `mag`.
-pub writes-in-range : (k n : ℕ) (to : Position) (f : ℕ → ℤ → ℤ → Answer) → 8 ≤ k → rowOf n .operation ≡ writes to f → (x y v : ℤ) →
-    inRange (limit k) x ≡ true → inRange (limit k) y ≡ true → f (limit k) x y ≡ value v → inRange (limit k) v ≡ true
-writes-in-range k n to f h e x y v p q r =
-    let one : 1 ≤ limit k = omega (arith, limit-low h) in
-    let g : WritesRange (limit k) (writes to f) = subst (WritesRange (limit k)) e (row-range k n h) in
-    mag-range (limit k) v one (subst (Good (limit k)) r (g x y (range-mag (limit k) x one p) (range-mag (limit k) y one q)))
 
 -- LISTS OF VALUES
 pub getD-range : (m : ℕ) (zs : List ℤ) (i : ℕ) → 1 ≤ m → allInRange m zs ≡ true → mag (getD zs i (pos 0)) < m

@@ -4,7 +4,7 @@ use mathlib.Core.Path.{_≡_}
 use mathlib.Core.List.{List, [], _∷_, _++_}
 use mathlib.Core.Option.{Option, some}
 use lib.IntN.{ℤ}
-use lib.ListN.{length, take, drop}
+use lib.ListN.{length, drop}
 use Rattle.model.specs.declared.Ending.{Ending}
 use Rattle.model.specs.declared.Ending.the-variants.{Paused}
 use Rattle.model.specs.declared.Outcome.{Outcome}
@@ -71,22 +71,8 @@ module _ {St : Type 0} where
   unfoldable pub refuse : ℕ → Account St → Call → Result St
   refuse n a c = record { reply = record { outcome = Refused n; count = 0; cycles = 0 }; account = a; slice = c .slice }
 
-  -- The replies of a list.
-  unfoldable pub replies : List (Result St) → List Reply
-  replies [] = []
-  replies (x ∷ xs) = x .reply ∷ replies xs
-
-  -- "Joined outputs are the values that the accepted grants wrote, in the list's order, each as it stood when its grant returned."
-  unfoldable pub joined : List (Result St) → List ℤ
-  joined [] = []
-  joined (x ∷ xs) = take (x .reply .count) (x .slice) ++ joined xs
-
 module _ (M : Machine) where
   open Machine M using (St, fresh, cost, values, step)
-
-  -- "the state that start makes", with nothing granted or spent
-  unfoldable pub start : Account St
-  start = record { state = fresh; granted = 0; spent = 0 }
 
   -- "Otherwise the step runs and spent rises by the cost."
   unfoldable pub advance : Standing St → Standing St
@@ -129,16 +115,6 @@ module _ (M : Machine) where
     -- A grant: its checks, then its run.
     unfoldable pub grant : Account St → Call → Result St
     grant a c = elim (refusal a c) [ zero ↦ accept a c | suc n ↦ refuse (suc n) a c ]
-
-    -- A list of grants: each "gets the record and memory that the one before it left".
-    unfoldable pub results : Account St → List Call → List (Result St)
-    results a [] = []
-    results a (c ∷ cs) = grant a c ∷ results (grant a c .account) cs
-
-    -- The record and memory that a list leaves.
-    unfoldable pub final : Account St → List Call → Account St
-    final a [] = a
-    final a (c ∷ cs) = final (grant a c .account) cs
 
     -- The replies to a list of calls, from m instructions and `g` cycles granted before it to n and g′ after it.
     -- "A refused one takes no step and adds no cycles"; "its values and cycles spent are those of its own steps".
