@@ -1,0 +1,5 @@
+pub mod Integers
+pub mod LimitLaws
+pub mod Settled
+pub mod Table
+pub mod BitLaws

@@ -1,0 +1,29 @@
+use borrow.Author.Needs.{needs}
+use mir.Facts.{toZ-ofZ}
+use Rattle.cells.proofs.Integers.{cast-fits, cast-same, add-fits}
+use Rattle.cells.proofs.arithmetic.add.Statement.{statement}
+use Rattle.cells.proofs.arithmetic.add.Tie as tie
+
+cast-settle-wide : tie.Need-cast-settle-wide
+cast-settle-wide c = cast-fits (c .fits .x)
+
+cast-settle-wide-2 : tie.Need-cast-settle-wide-2
+cast-settle-wide-2 c = cast-fits (c .fits .y)
+
+add-settle-wide : tie.Need-add-settle-wide
+add-settle-wide c = rw (cast-same (c .fits .x), cast-same (c .fits .y)) (add-fits (c .fits .x) (c .fits .y))
+
+settle-wide-requires : tie.Need-settle-wide-requires
+settle-wide-requires c κs = search needs
+
+returns : tie.Need-returns
+returns c =
+    let fx = c .before .fits .x in
+    let fy = c .before .fits .y in
+    let f = add-fits fx fy in
+    rw (cast-same fx, cast-same fy, toZ-ofZ f) at (c .settle-wide .ensures)
+
+pub add-spec : {M : Type 1} → statement M
+add-spec =
+    tie.close
+    (tie.spec cast-settle-wide cast-settle-wide-2 add-settle-wide settle-wide-requires returns)

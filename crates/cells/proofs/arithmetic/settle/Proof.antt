@@ -1,0 +1,18 @@
+use borrow.Author.Needs.{needs}
+use mathlib.Core.Path.{sym, _∙_}
+use mir.Facts.{toZ-ofZ}
+use Rattle.cells.proofs.Settled.{is-in, is-out}
+use Rattle.cells.proofs.arithmetic.settle.Statement.{statement}
+use Rattle.cells.proofs.arithmetic.settle.Tie as tie
+
+in-range-requires : tie.Need-in-range-requires
+in-range-requires c κs = search needs
+
+returns : tie.Need-returns
+returns c = rw (toZ-ofZ (c .before .before .fits .z)) (is-in (c .before .before .pre) (c .before .before .args .z) (rw (toZ-ofZ (c .before .before .fits .z)) at (sym (c .before .in-range .ensures) ∙ c .if1 .taken)))
+
+returns-2 : tie.Need-returns-2
+returns-2 c = is-out (c .before .before .pre) (c .before .before .args .z) (rw (toZ-ofZ (c .before .before .fits .z)) at (sym (c .before .in-range .ensures) ∙ c .if1 .left))
+
+pub settle-spec : {M : Type 1} → statement M
+settle-spec = tie.close (tie.spec in-range-requires returns returns-2)

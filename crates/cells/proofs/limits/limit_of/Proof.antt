@@ -1,0 +1,33 @@
+use borrow.Author.Needs.{needs}
+use Prim.Native.Nat.{ℕ}
+use mathlib.Core.Path.{refl}
+use mathlib.Core.List.{List, [], _∷_}
+use native.Mathlib.Omega.{arith}
+use Rattle.model.specs.Parameters.{limit}
+use Rattle.cells.proofs.Table.{rule}
+use Rattle.cells.proofs.limits.limit_of.Statement.{statement}
+use Rattle.cells.proofs.limits.limit_of.Tie as tie
+
+-- The code's table; `refl` below computes the test of its rule.
+abbrev table : List ℕ
+table =
+    128 ∷ 256 ∷ 512 ∷ 1024 ∷ 2048 ∷ 4096 ∷ 8192 ∷ 16384 ∷ 32768 ∷ 65536 ∷ 131072 ∷ 262144
+    ∷ 524288 ∷ 1048576 ∷ 2097152 ∷ 4194304 ∷ 8388608 ∷ 16777216 ∷ 33554432 ∷ 67108864 ∷ 134217728 ∷ 268435456 ∷ 536870912 ∷ []
+
+sub-result : tie.Need-sub-result
+sub-result c = search needs
+
+cast-result : tie.Need-cast-result
+cast-result c = search needs
+
+mul-result : tie.Need-mul-result
+mul-result c = search needs
+
+array-read-result : tie.Need-array-read-result
+array-read-result c = search needs
+
+returns : tie.Need-returns
+returns c = rule limit 8 (c .args .k) table refl (omega arith) (omega arith)
+
+pub limit-of-spec : {M : Type 1} → statement M
+limit-of-spec = tie.close (tie.spec sub-result cast-result mul-result array-read-result returns)

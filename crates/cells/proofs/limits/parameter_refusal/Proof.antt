@@ -1,0 +1,90 @@
+use borrow.Author.Needs.{needs}
+use Prim.Native.Nat.{_-_, _≤_}
+use mathlib.Core.Path.{_≡_, sym, _∙_}
+use mathlib.Core.Bool.{true, _&&_}
+use native.Mathlib.Omega.{arith}
+use lib.Dec.{leb}
+use borrow.Author.Tests.{not-false, not-true, le-leb, lt-leb}
+use Rattle.model.specs.Parameters.{between, limit, parameterChecks}
+use Rattle.model.proofs.Fits.{is-between, limit-low}
+use Rattle.cells.proofs.limits.parameter_refusal.Statement.{statement}
+use Rattle.cells.proofs.limits.parameter_refusal.Tie as tie
+
+-- The tests that passed on the way: K, N, S and B.
+bits : (c : tie.Else1) → between 8 30 (c .before .before .args .p .k) ≡ true
+bits c = sym (c .before .within .ensures) ∙ not-false _ (c .if1 .left)
+
+registers : (c : tie.Else2) → between 1 256 (c .before .before .before .before .args .p .n) ≡ true
+registers c = sym (c .before .within2 .ensures) ∙ not-false _ (c .if2 .left)
+
+cells : (c : tie.Else3) → (between 1 4096 (c .before .before .before .before .before .before .before .args .p .s) && leb (c .before .before .before .before .before .before .before .args .p .s) (limit (c .before .before .before .before .before .before .before .args .p .k) - 1)) ≡ true
+cells c = rw (c .before .before .limit-of .ensures) at (sym (c .before .countable .ensures) ∙ not-false _ (c .if3 .left))
+
+stack : (c : tie.Else4) → leb (c .before .before .before .before .before .before .before .before .before .args .p .b) (c .before .before .before .before .before .before .before .before .before .args .p .s) ≡ true
+stack c = le-leb _ _ (c .if4 .left)
+
+at-least-one : (c : tie.After-limit-of) → 1 ≤ c .limit-of .result
+at-least-one c =
+    let k = is-between 8 30 (c .before .before .before .before .before .args .p .k) (bits (c .before .before .before)) in
+    rw (c .limit-of .ensures) (omega (arith, limit-low (k .0)))
+
+within-requires : tie.Need-within-requires
+within-requires c κs = search needs
+
+returns : tie.Need-returns
+unfolding parameterChecks
+returns c = rw (sym (c .before .within .ensures) ∙ not-true _ (c .if1 .taken))
+
+within-requires-2 : tie.Need-within-requires-2
+within-requires-2 c κs = search needs
+
+returns-2 : tie.Need-returns-2
+unfolding parameterChecks
+returns-2 c = rw (bits (c .before .before), sym (c .before .within2 .ensures) ∙ not-true _ (c .if2 .taken))
+
+limit-of-requires : tie.Need-limit-of-requires
+limit-of-requires c κs = is-between 8 30 (c .before .before .before .before .args .p .k) (bits (c .before .before))
+
+countable-requires : tie.Need-countable-requires
+countable-requires c κs = at-least-one c
+
+returns-3 : tie.Need-returns-3
+unfolding parameterChecks
+returns-3 c =
+    let failed = rw (c .before .before .limit-of .ensures) at (sym (c .before .countable .ensures) ∙ not-true _ (c .if3 .taken)) in
+    rw (bits (c .before .before .before .before .before), registers (c .before .before .before), failed)
+
+returns-4 : tie.Need-returns-4
+unfolding parameterChecks
+returns-4 c = rw (bits (c .before .before .before .before .before .before .before), registers (c .before .before .before .before .before), cells (c .before .before), lt-leb _ _ (c .if4 .taken))
+
+countable-requires-2 : tie.Need-countable-requires-2
+countable-requires-2 c κs = at-least-one (c .before .before .before .before)
+
+returns-5 : tie.Need-returns-5
+unfolding parameterChecks
+returns-5 c =
+    let failed = rw (c .before .before .before .before .before .before .limit-of .ensures) at (sym (c .before .countable2 .ensures) ∙ not-true _ (c .if5 .taken)) in
+    rw (bits (c .before .before .before .before .before .before .before .before .before), registers (c .before .before .before .before .before .before .before), cells (c .before .before .before .before), stack (c .before .before), failed)
+
+returns-6 : tie.Need-returns-6
+unfolding parameterChecks
+returns-6 c =
+    let passed = rw (c .before .before .before .before .before .before .limit-of .ensures) at (sym (c .before .countable2 .ensures) ∙ not-false _ (c .if5 .left)) in
+    rw (bits (c .before .before .before .before .before .before .before .before .before), registers (c .before .before .before .before .before .before .before), cells (c .before .before .before .before), stack (c .before .before), passed)
+
+pub parameter-refusal-spec : {M : Type 1} → statement M
+parameter-refusal-spec =
+    tie.close
+    (tie.spec
+    within-requires
+    returns
+    within-requires-2
+    returns-2
+    limit-of-requires
+    countable-requires
+    returns-3
+    returns-4
+    countable-requires-2
+    returns-5
+    returns-6)
