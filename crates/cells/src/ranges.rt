@@ -19,9 +19,9 @@ pub fn in_range(m: u32, z: i32) -> bool
 pub fn in_range_wide(m: u32, z: i64) -> bool
     ensures { λ r. ⌜ r ≡ inRange m z ⌝ }
 {
-    let top = m as i64;
-    if -top <= z {
-        return z < top;
+    let limit = m as i64;
+    if -limit <= z {
+        return z < limit;
     }
     false
 }
