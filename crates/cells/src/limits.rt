@@ -4,6 +4,7 @@ ghost use mathlib.Core.Bool.{_&&_};
 ghost use Prim.Native.Nat.{_-_, _≤_};
 ghost use lib.Dec.{leb};
 ghost use Rattle.model.specs.Parameters.{limit, between, refusalOf, parameterChecks};
+ghost use Rattle.cells.specs.Cells.{IsLimit};
 use model::Parameters;
 use model::Record;
 
@@ -38,6 +39,7 @@ const LIMITS: [u32; 23] = [
 pub fn limit_of(k: u32) -> u32
     requires { ⌜ (8 ≤ k) × (k ≤ 30) ⌝ }
     ensures { λ r. ⌜ r ≡ limit k ⌝ }
+    ensures limit { λ r. ⌜ IsLimit r ⌝ }
 {
     LIMITS[(k - Record::MIN_BITS) as usize]
 }

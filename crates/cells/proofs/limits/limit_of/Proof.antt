@@ -27,7 +27,10 @@ array-read-result : tie.Need-array-read-result
 array-read-result c = search needs
 
 returns : tie.Need-returns
-returns c = rule limit 8 (c .args .k) table refl (omega arith) (omega arith)
+returns c =
+    let k = c .args .k in
+    let e = rule limit 8 k table refl (omega arith) (omega arith) in
+    (e, record { k = k; low = c .pre .0; high = c .pre .1; is = e })
 
 pub limit-of-spec : {M : Type 1} → statement M
 limit-of-spec = tie.close (tie.spec sub-result cast-result mul-result array-read-result returns)

@@ -6,7 +6,8 @@ use native.Mathlib.Omega.{arith}
 use lib.Dec.{leb}
 use borrow.Author.Tests.{not-false, not-true, le-leb, lt-leb}
 use Rattle.model.specs.Parameters.{between, limit, parameterChecks}
-use Rattle.model.proofs.Fits.{is-between, limit-low}
+use Rattle.model.proofs.Fits.{is-between}
+use Rattle.cells.proofs.LimitLaws.{one}
 use Rattle.cells.proofs.limits.parameter_refusal.Statement.{statement}
 use Rattle.cells.proofs.limits.parameter_refusal.Tie as tie
 
@@ -18,15 +19,10 @@ registers : (c : tie.Else2) → between 1 256 (c .before .before .before .before
 registers c = sym (c .before .within2 .ensures) ∙ not-false _ (c .if2 .left)
 
 cells : (c : tie.Else3) → (between 1 4096 (c .before .before .before .before .before .before .before .args .p .s) && leb (c .before .before .before .before .before .before .before .args .p .s) (limit (c .before .before .before .before .before .before .before .args .p .k) - 1)) ≡ true
-cells c = rw (c .before .before .limit-of .ensures) at (sym (c .before .countable .ensures) ∙ not-false _ (c .if3 .left))
+cells c = rw (c .before .before .limit-of .ensures .0) at (sym (c .before .countable .ensures) ∙ not-false _ (c .if3 .left))
 
 stack : (c : tie.Else4) → leb (c .before .before .before .before .before .before .before .before .before .args .p .b) (c .before .before .before .before .before .before .before .before .before .args .p .s) ≡ true
 stack c = le-leb _ _ (c .if4 .left)
-
-at-least-one : (c : tie.After-limit-of) → 1 ≤ c .limit-of .result
-at-least-one c =
-    let k = is-between 8 30 (c .before .before .before .before .before .args .p .k) (bits (c .before .before .before)) in
-    rw (c .limit-of .ensures) (omega (arith, limit-low (k .0)))
 
 within-requires : tie.Need-within-requires
 within-requires c κs = search needs
@@ -46,12 +42,12 @@ limit-of-requires : tie.Need-limit-of-requires
 limit-of-requires c κs = is-between 8 30 (c .before .before .before .before .args .p .k) (bits (c .before .before))
 
 countable-requires : tie.Need-countable-requires
-countable-requires c κs = at-least-one c
+countable-requires c κs = one (c .limit-of .ensures .1)
 
 returns-3 : tie.Need-returns-3
 unfolding parameterChecks
 returns-3 c =
-    let failed = rw (c .before .before .limit-of .ensures) at (sym (c .before .countable .ensures) ∙ not-true _ (c .if3 .taken)) in
+    let failed = rw (c .before .before .limit-of .ensures .0) at (sym (c .before .countable .ensures) ∙ not-true _ (c .if3 .taken)) in
     rw (bits (c .before .before .before .before .before), registers (c .before .before .before), failed)
 
 returns-4 : tie.Need-returns-4
@@ -59,18 +55,18 @@ unfolding parameterChecks
 returns-4 c = rw (bits (c .before .before .before .before .before .before .before), registers (c .before .before .before .before .before), cells (c .before .before), lt-leb _ _ (c .if4 .taken))
 
 countable-requires-2 : tie.Need-countable-requires-2
-countable-requires-2 c κs = at-least-one (c .before .before .before .before)
+countable-requires-2 c κs = one (c .before .before .before .before .limit-of .ensures .1)
 
 returns-5 : tie.Need-returns-5
 unfolding parameterChecks
 returns-5 c =
-    let failed = rw (c .before .before .before .before .before .before .limit-of .ensures) at (sym (c .before .countable2 .ensures) ∙ not-true _ (c .if5 .taken)) in
+    let failed = rw (c .before .before .before .before .before .before .limit-of .ensures .0) at (sym (c .before .countable2 .ensures) ∙ not-true _ (c .if5 .taken)) in
     rw (bits (c .before .before .before .before .before .before .before .before .before), registers (c .before .before .before .before .before .before .before), cells (c .before .before .before .before), stack (c .before .before), failed)
 
 returns-6 : tie.Need-returns-6
 unfolding parameterChecks
 returns-6 c =
-    let passed = rw (c .before .before .before .before .before .before .limit-of .ensures) at (sym (c .before .countable2 .ensures) ∙ not-false _ (c .if5 .left)) in
+    let passed = rw (c .before .before .before .before .before .before .limit-of .ensures .0) at (sym (c .before .countable2 .ensures) ∙ not-false _ (c .if5 .left)) in
     rw (bits (c .before .before .before .before .before .before .before .before .before), registers (c .before .before .before .before .before .before .before), cells (c .before .before .before .before), stack (c .before .before), passed)
 
 pub parameter-refusal-spec : {M : Type 1} → statement M
