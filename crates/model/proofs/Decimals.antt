@@ -31,7 +31,7 @@ pub data Plain : List ℕ → Type 0 where
   is-negative : {s : List ℕ} → Leading s → Plain (45 ∷ s)
 
 -- DIGIT BY DIGIT
-digits-last : (f n : ℕ) (s : List ℕ) → n < 10 → digitsOf (suc f) n s ≡ (48 + n) ∷ s
+pub digits-last : (f n : ℕ) (s : List ℕ) → n < 10 → digitsOf (suc f) n s ≡ (48 + n) ∷ s
 unfolding digitsOf
 digits-last f n s h = simp (digitsOf, lt-ltb n 10 h)
 
@@ -82,7 +82,7 @@ ten-pow (suc k) = rw pow-suc (omega (arith, ten-pow k))
 abbrev AtMost : (fuel n : ℕ) → Type 0
 AtMost f n = (k : ℕ) (s : List ℕ) → n < 10 ^ suc k → length (digitsOf f n s) ≤ suc k + length s
 
-digits-at-most : (f n : ℕ) → n < f → AtMost f n
+pub digits-at-most : (f n : ℕ) → n < f → AtMost f n
 digits-at-most = by-digits AtMost last more
   where
     last : (f n : ℕ) → n < 10 → AtMost (suc f) n
@@ -132,7 +132,7 @@ digits-leading = by-digits Leads last more
     more f n l ih s h d = rw (digits-more f n s l) (ih ((48 + n % 10) ∷ s) (omega arith) (is-digit (n % 10) (omega arith), d))
 
 -- The digits of a number that is not 0.
-pub leading : (n : ℕ) → Leading (digitsOf (suc (suc n)) (suc n) [])
+leading : (n : ℕ) → Leading (digitsOf (suc (suc n)) (suc n) [])
 leading n = digits-leading (suc (suc n)) (suc n) (omega arith) [] (omega arith) tt
 
 pub decimal-plain : (z : ℤ) → Plain (decimal z)

@@ -1,0 +1,3 @@
+pub mod Among
+pub mod Reading
+pub mod Spelling
