@@ -190,12 +190,13 @@ more-digits m (b ∷ s) d =
     let k = is-between 48 57 b (d .0) in
     let r = more-digits q s (d .1) in
     let e : suc q / 10 ≡ suc m = omega (arith, k .0, k .1) in
-    let c : 48 + suc q % 10 ≡ b = omega (arith, k .0, k .1) in
-    (r .0,
+    let c : 48 + suc q % 10 ≡ b = omega (arith, k .0, k .1) in (
+      r .0,
       digits-fuel (suc (suc m)) (suc m) (omega arith) (suc q) (b ∷ s) (omega (arith, k .0))
-      ∙ sym (ap₂ (λ (n a : ℕ). digitsOf (suc q) n (a ∷ s)) e c)
-      ∙ sym (digits-more (suc q) (suc q) s (omega (arith, k .0)))
-      ∙ r .1)
+          ∙ sym (ap₂ (λ (n a : ℕ). digitsOf (suc q) n (a ∷ s)) e c)
+          ∙ sym (digits-more (suc q) (suc q) s (omega (arith, k .0)))
+          ∙ r .1,
+    )
 
 spelled-leading : (s : List ℕ) → Leading s → (n : ℕ) × (s ≡ digitsOf (suc (suc n)) (suc n) [])
 spelled-leading [] l = absurd l

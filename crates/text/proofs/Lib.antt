@@ -1,3 +1,5 @@
 pub mod Among
+pub mod Parts
 pub mod Reading
 pub mod Spelling
+pub mod Walks

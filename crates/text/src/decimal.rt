@@ -74,7 +74,10 @@ pub fn write_decimal(value: i32, out: &mut [u8]) -> DecimalReply
     ensures { λ r. ⌜ written r (now (out .exit)) ≡ spelled value (now (out .entry)) ⌝ }
 {
     if out.len() < 11 {
-        return DecimalReply { refusal: 18, count: 0 };
+        return DecimalReply {
+            refusal: 18,
+            count: 0,
+        };
     }
     let n = magnitude(value);
     if 0 <= value {

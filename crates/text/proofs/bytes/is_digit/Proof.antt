@@ -1,5 +1,4 @@
 -- `bytes::is_digit` meets its contract. Assumes nothing.
-use mathlib.Core.Path.{sym}
 use borrow.Author.Tests.{le-leb, lt-leb}
 use Rattle.text.proofs.bytes.is_digit.Statement.{statement}
 use Rattle.text.proofs.bytes.is_digit.Tie as tie

@@ -1,6 +1,6 @@
 -- `decimal::magnitude` meets its contract: a negative value of 32 bits and its negation fit 64. Assumes nothing.
-use Prim.Native.Nat.{ℕ, zero, suc, _≤_, _^_}
-use mathlib.Core.Path.{_≡_, refl, sym, _∙_}
+use Prim.Native.Nat.{ℕ, suc, _≤_, _^_}
+use mathlib.Core.Path.{_≡_, sym, _∙_}
 use mathlib.Core.Bool.{true, false}
 use native.Mathlib.Omega.{arith}
 use borrow.Author.Needs.{needs}
@@ -8,7 +8,7 @@ use lib.Dec.{T, leb·zero}
 use lib.IntN.{ℤ, pos, negsuc, natAbs, _-ℤ_, +ℤ-idl}
 use lib.Signed.{nonNeg, leZ, natAbs-le}
 use mir.Syntax.{w32, w64}
-use mir.Val.{Fits, SFits, toZ, ofZ}
+use mir.Val.{SFits}
 use mir.Facts.{toZ-ofZ}
 use Rattle.text.proofs.decimal.magnitude.Statement.{statement}
 use Rattle.text.proofs.decimal.magnitude.Tie as tie

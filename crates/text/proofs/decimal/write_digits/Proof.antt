@@ -1,13 +1,10 @@
 -- `decimal::write_digits` meets its contract: the digits that are left go in front of what is written. Assumes nothing.
 use Prim.Native.Nat.{ℕ, suc, _+_, _-_, _%_, _≤_}
-use mathlib.Core.Path.{_≡_, refl, sym, ap, _∙_}
-use mathlib.Core.List.{List, [], _++_}
+use mathlib.Core.Path.{_≡_, refl, sym, _∙_}
+use mathlib.Core.List.{List, []}
 use native.Mathlib.Omega.{arith}
 use borrow.Author.Needs.{needs}
-use denote.Ref.{now}
-use lib.IntN.{pos}
 use lib.ListN.{length, drop, set, length-set}
-use Rattle.model.specs.Numbers.{decimal}
 use Rattle.model.proofs.Decimals.{digits-at-most}
 use Rattle.text.proofs.Spelling.{lastDigits, decimal-digits, write-digit}
 use Rattle.text.proofs.decimal.write_digits.Statement.{statement}
@@ -59,10 +56,11 @@ finished at n out e = rw e
 returns : tie.Need-returns Inv-loop μ-loop
 returns c =
     let start = c .before .before .before .before .args in
-    let count = c .before .before .digit-count .ensures in
-    (count,
+    let count = c .before .before .digit-count .ensures in (
+      count,
       sym (c .before .loop .inv .2 ∙ finished (c .before .loop .at) (c .before .loop .left) (c .before .loop .out) (omega arith))
-      ∙ rw count (decimal-digits (start .n) _))
+          ∙ rw count (decimal-digits (start .n) _),
+    )
 
 pub write-digits-spec : {M : Type 1} → statement M
 write-digits-spec =

@@ -1,7 +1,6 @@
 -- `numbers::append_digit` meets its contract. Assumes nothing.
 use native.Mathlib.Omega.{arith}
 use borrow.Author.Needs.{needs}
-use borrow.Author.Tests.{leb-true}
 use Rattle.model.proofs.Fits.{is-between}
 use Rattle.text.proofs.numbers.append_digit.Statement.{statement}
 use Rattle.text.proofs.numbers.append_digit.Tie as tie

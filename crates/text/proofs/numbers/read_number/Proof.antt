@@ -1,5 +1,5 @@
 -- `numbers::read_number` meets its contract: the digits behind the sign, cut at the cap, are in range where the number is. Assumes nothing.
-use mathlib.Core.Path.{_≡_, sym, ap, _∙_}
+use mathlib.Core.Path.{sym, ap, _∙_}
 use borrow.Author.Needs.{needs}
 use denote.Ref.{now}
 use lib.ListN.{drop}

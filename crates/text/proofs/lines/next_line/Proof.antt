@@ -1,0 +1,70 @@
+-- `lines::next_line` meets its contract: the lines from p on are those from i on behind the part up to i. Assumes nothing.
+use Prim.Native.Nat.{_-_, _≤_}
+use mathlib.Core.Path.{_≡_, _∙_}
+use native.Mathlib.Omega.{arith}
+use borrow.Author.Needs.{needs}
+use denote.Ref.{now}
+use lib.ListN.{length, drop}
+use Rattle.model.specs.Load.{linesFrom, lines}
+use Rattle.text.specs.Parts.{part}
+use Rattle.text.proofs.Parts.{part-empty}
+use Rattle.text.proofs.Walks.{last-line, line-ends, line-more}
+use Rattle.text.proofs.lines.next_line.Statement.{statement}
+use Rattle.text.proofs.lines.next_line.Tie as tie
+
+abbrev Inv-loop : tie.InvT-loop
+Inv-loop t p i₀ i = (p ≤ i) × (i ≤ length t) × (lines (drop p t) ≡ linesFrom (part p i t) (drop i t))
+
+abbrev μ-loop : tie.MeasureT-loop
+μ-loop t p i₀ i = length t - i
+
+loop-holds : tie.Need-loop-holds Inv-loop μ-loop
+loop-holds c = (search needs, search needs, rw part-empty)
+
+shared-slice-read-if1 : tie.Need-shared-slice-read-if1 Inv-loop μ-loop
+shared-slice-read-if1 c = search needs
+
+add-t8 : tie.Need-add-t8 Inv-loop μ-loop
+add-t8 c = search needs
+
+returns : tie.Need-returns Inv-loop μ-loop
+returns c =
+    let at = c .before .before in
+    let inv = at .before .loop .inv in
+    let same = inv .2 ∙ line-ends (now (at .before .before .args .t)) (at .before .loop .i) (at .loop-test .taken) _ (c .if1 .taken) in
+    record { low = inv .0; high = inv .1; more = omega arith; within = omega arith; same = same }
+
+add-i : tie.Need-add-i Inv-loop μ-loop
+add-i c = search needs
+
+loop-less : tie.Need-loop-less Inv-loop μ-loop
+loop-less c = search needs
+
+loop-again : tie.Need-loop-again Inv-loop μ-loop
+loop-again c =
+    let at = c .before .before in
+    let inv = at .before .loop .inv in
+    let a = at .before .before .args in
+    (search needs, search needs, inv .2 ∙ line-more (now (a .t)) (at .before .loop .i) (at .loop-test .taken) (a .p) (inv .0) (c .if1 .left))
+
+returns-2 : tie.Need-returns-2 Inv-loop μ-loop
+returns-2 c =
+    let inv = c .before .loop .inv in
+    let a = c .before .before .args in
+    let same = inv .2 ∙ last-line (now (a .t)) (a .p) (c .before .loop .i) (omega arith) (omega arith) in
+    record { low = inv .0; high = inv .1; more = omega arith; within = inv .1; same = same }
+
+pub next-line-spec : {M : Type 1} → statement M
+next-line-spec =
+    tie.close
+    (tie.spec
+    Inv-loop
+    μ-loop
+    loop-holds
+    shared-slice-read-if1
+    add-t8
+    returns
+    add-i
+    loop-less
+    loop-again
+    returns-2)
