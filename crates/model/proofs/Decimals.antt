@@ -31,6 +31,7 @@ pub data Plain : List ℕ → Type 0 where
   is-negative : {s : List ℕ} → Leading s → Plain (45 ∷ s)
 
 -- DIGIT BY DIGIT
+-- The test of the definition, as a fact.
 pub digits-last : (f n : ℕ) (s : List ℕ) → n < 10 → digitsOf (suc f) n s ≡ (48 + n) ∷ s
 unfolding digitsOf
 digits-last f n s h = simp (digitsOf, lt-ltb n 10 h)
@@ -64,6 +65,7 @@ digits-fuel = by-digits Enough last more
     more f n l ih zero s h = absurd (omega arith)
     more f n l ih (suc g) s h = digits-more f n s l ∙ ih g _ (omega arith) ∙ sym (digits-more g n s l)
 
+-- What stands behind stays there.
 pub digits-append : (f n : ℕ) (s t : List ℕ) → digitsOf f n (s ++ t) ≡ digitsOf f n s ++ t
 unfolding digitsOf
 digits-append zero n s t = refl

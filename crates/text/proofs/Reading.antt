@@ -40,7 +40,7 @@ pub number-none : (w : List ℕ) → length w ≡ 0 → number w ≡ none
 number-none [] h = refl
 number-none (b ∷ s) h = absurd (omega arith)
 
-module _ (w : List ℕ) (some : 0 < length w) where
+module _ (w : List ℕ) (inside : 0 < length w) where
   pub number-plus : getD w 0 0 ≡ 43 → number w ≡ mapped pos (natural (drop 1 w))
   number-plus e = rw (drop-cons w 0 0) (simp e)
 

@@ -7,11 +7,10 @@ use native.Mathlib.Numerals.{add-one}
 use native.Mathlib.Omega.{arith}
 use lib.Dec.{leb·zero}
 use lib.IntN.{ℤ, pos, negsuc, natAbs}
-use lib.ListN.{length, take, drop, set, length-append, length-drop, length-set}
+use lib.ListN.{length, take, drop, set, length-append, length-set}
 use lib.Seq.{take-length, drop-length, drop-cons, drop-set-lt, getD-set-same}
 use lib.Signed.{leZ}
 use borrow.Author.Tests.{lt-ltb, le-ltb}
-use borrow.Rule.Slice.PartAt.{part-to-end}
 use borrow.Rule.Slice.PartMut.{putMid}
 use Rattle.model.specs.Numbers.{digitsOf, decimal}
 use Rattle.model.specs.Calls.{spelled}
@@ -66,14 +65,9 @@ pub decimal-negative : {y z : ℤ} {n : ℕ} → y ≡ z → leZ (pos 0) y ≡ f
 decimal-negative {y = pos m} e h k = let e : true ≡ false = sym (leb·zero m) ∙ h in cc
 decimal-negative {y = negsuc m} e h k = rw (← e, k)
 
--- Behind the minus there is room for ten digits.
-pub digit-room : (old : List ℕ) → 11 ≤ length old → 10 ≤ length (take (length (set old 0 45) - 1) (drop 1 (set old 0 45)))
-digit-room old h = rw (part-to-end (set old 0 45) 1, length-drop, length-set) (omega arith)
-
 -- The minus stands in front of the part that the digits are written to.
-pub minus-first : (old ds out : List ℕ) (count : ℕ) → 1 ≤ length old →
-    out ≡ ds ++ drop count (take (length (set old 0 45) - 1) (drop 1 (set old 0 45))) →
-    putMid 1 (length (set old 0 45) - 1) (set old 0 45) out ≡ (45 ∷ ds) ++ drop (count + 1) old
+pub minus-first : (old ds out : List ℕ) (count : ℕ) → 1 ≤ length old → out ≡ ds ++ drop count (take (length old - 1) (drop 1 old)) →
+    set (putMid 1 (length old - 1) old out) 0 45 ≡ (45 ∷ ds) ++ drop (count + 1) old
 minus-first [] ds out count h e = absurd (omega arith)
 minus-first (b ∷ s) ds out count h e =
     let k : suc (length s) - 1 ≡ length s = omega arith in

@@ -84,8 +84,8 @@ pub fn write_decimal(value: i32, out: &mut [u8]) -> DecimalReply
         let count = write_digits(n, out);
         return DecimalReply { refusal: 0, count };
     }
-    out[0] = b'-';
     let count = write_digits(n, &mut out[1..]);
+    out[0] = b'-';
     DecimalReply {
         refusal: 0,
         count: count + 1,

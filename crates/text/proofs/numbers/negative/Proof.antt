@@ -1,5 +1,5 @@
 -- `numbers::negative` meets its contract: the negation of a number of 31 bits fits. Assumes nothing.
-use Prim.Native.Nat.{ℕ, zero, suc, _<_, _^_}
+use Prim.Native.Nat.{ℕ, zero, suc, _≤_, _<_, _^_}
 use mathlib.Core.Path.{_≡_}
 use native.Mathlib.Omega.{arith}
 use borrow.Author.Needs.{needs}
@@ -40,7 +40,8 @@ returns-2 : tie.Need-returns-2
 returns-2 c =
     let g = c .before .before .d .given in
     let h : g .0 .0 < 2 ^ hbits w32 = omega arith in
-    simp (g .1, le-leb _ _ (c .if1 .taken), toZ-pos w32 h, minus, toZ-ofZ (fits (g .0 .0) h))
+    let l : g .0 .0 ≤ c .before .before .before .before .args .m = omega arith in
+    simp (g .1, le-leb _ _ l, toZ-pos w32 h, minus, toZ-ofZ (fits (g .0 .0) h))
 
 returns-3 : tie.Need-returns-3
 returns-3 c = simp (c .before .before .d .given .1, lt-leb _ _ (c .if1 .left))

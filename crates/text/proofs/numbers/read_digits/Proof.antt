@@ -21,7 +21,10 @@ abbrev μ-loop : tie.MeasureT-loop
 μ-loop w from n₀ i₀ n i = length w - i
 
 returns : tie.Need-returns Inv-loop μ-loop
-returns c = rw (drop-of-length-le _ (c .if1 .taken))
+returns c =
+    let a = c .before .before .args in
+    let h : length (now (a .w)) ≤ a .from = omega arith in
+    rw (drop-of-length-le (now (a .w)) h)
 
 loop-holds : tie.Need-loop-holds Inv-loop μ-loop
 loop-holds c = (search needs, (0, refl, natural-at _ _ (c .if1 .left)))
