@@ -10,7 +10,7 @@ use Rattle.text.specs.declared.numbers.Digits.the-variants.{Value, Inval
 use Rattle.text.specs.declared.numbers.Reading.{Reading}
 use Rattle.text.specs.declared.numbers.Reading.the-variants.{NotANumber, Number, Outside}
 
--- A value is held at most at 2^30: every limit is at most 2^29, so that a greater one is outside it all the same.
+-- A value is held at most at 2^30. Every limit of an index or a number is at most 2^29, so that one from 2^30 on is outside all the same.
 abbrev pub capped : Option ℕ → Digits
 capped none = Invalid
 capped (some n) = Value (min (2 ^ 30) n)
@@ -20,11 +20,12 @@ abbrev pub readingOf : (m : ℕ) → Option ℤ → Reading
 readingOf m none = NotANumber
 readingOf m (some z) = cond (inRange m z) (Number z) Outside
 
--- The same of digits behind no sign or a plus, and behind a minus.
+-- The number of digits behind no sign or a plus.
 abbrev pub positiveOf : (m : ℕ) → Digits → Reading
 positiveOf m Invalid = NotANumber
 positiveOf m (Value v) = cond (ltb v m) (Number (pos v)) Outside
 
+-- The number of digits behind a minus.
 abbrev pub negativeOf : (m : ℕ) → Digits → Reading
 negativeOf m Invalid = NotANumber
 negativeOf m (Value v) = cond (leb v m) (Number (negℤ (pos v))) Outside

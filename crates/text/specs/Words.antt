@@ -7,7 +7,7 @@ use lib.ListN.{length, getD, drop}
 use Rattle.model.specs.Load.{keep, words, isSeparator, isComment}
 use Rattle.text.specs.Parts.{part}
 
--- Separators alone stand from p up to r.
+-- The words from p on are those from r on, where no separator stands.
 pub record Skipped (l : List ℕ) (p r : ℕ) : Type 0 where
   pub low : p ≤ r
   pub high : r ≤ length l

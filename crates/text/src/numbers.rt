@@ -7,7 +7,7 @@ ghost use Rattle.model.specs.Numbers.{isDigit, natural, number};
 ghost use Rattle.text.specs.Numbers.{capped, positiveOf, negativeOf, readingOf};
 use super::bytes::is_digit;
 
-// Greater values are held as this one.
+// Greater values are held as this one, which is outside every range already.
 const CAP: u64 = 1073741824;
 
 // The value of digits, at most CAP, or that they are none.
