@@ -52,10 +52,10 @@ module _ (w : List ℕ) (inside : 0 < length w) where
 
 -- THE RANGE
 module _ (m : ℕ) (one : 1 ≤ m) where
-  pub reading-inside : (z : ℤ) → mag z < m → readingOf m (some z) ≡ Number z
+  reading-inside : (z : ℤ) → mag z < m → readingOf m (some z) ≡ Number z
   reading-inside z h = rw (mag-range m z one h)
 
-  pub reading-outside : (z : ℤ) → m ≤ mag z → readingOf m (some z) ≡ Outside
+  reading-outside : (z : ℤ) → m ≤ mag z → readingOf m (some z) ≡ Outside
   reading-outside z h = go (inRange m z) refl
     where
       go : (b : Bool) → inRange m z ≡ b → cond b (Number z) Outside ≡ Outside

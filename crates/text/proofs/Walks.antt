@@ -86,7 +86,7 @@ separator : (b : ℕ) (s : List ℕ) → isSeparator b ≡ true → words (b ∷
 unfolding wordsFrom
 separator b s h = simp (wordsFrom, among-fails isComment (9 ∷ 13 ∷ 32 ∷ 44 ∷ []) b (refl, (refl, (refl, (refl, tt)))) h, h)
 
-pub no-words : (l : List ℕ) (i : ℕ) → length l ≤ i → words (drop i l) ≡ []
+no-words : (l : List ℕ) (i : ℕ) → length l ≤ i → words (drop i l) ≡ []
 unfolding wordsFrom
 no-words l i h = rw (drop-of-length-le l h)
 
