@@ -2,4 +2,3 @@ pub mod Integers
 pub mod LimitLaws
 pub mod Settled
 pub mod Table
-pub mod BitLaws

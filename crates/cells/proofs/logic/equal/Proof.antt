@@ -1,9 +1,0 @@
-use Rattle.cells.proofs.Integers.{eqZ-bits}
-use Rattle.cells.proofs.logic.equal.Statement.{statement}
-use Rattle.cells.proofs.logic.equal.Tie as tie
-
-returns : tie.Need-returns
-returns c = eqZ-bits (c .fits .x) (c .fits .y)
-
-pub equal-spec : {M : Type 1} → statement M
-equal-spec = tie.close (tie.spec returns)

@@ -1,0 +1,45 @@
+use borrow.Author.Needs.{needs}
+use mathlib.Core.Path.{_≡_, sym, _∙_}
+use mathlib.Core.Bool.{true}
+use mir.Facts.{toZ-ofZ}
+use mir.Syntax.{w32}
+use mir.Val.{SFits}
+use Rattle.model.specs.Parameters.{isBoolean}
+use Rattle.logic.proofs.booleans.combined.Statement.{statement}
+use Rattle.logic.proofs.booleans.combined.Tie as tie
+
+first : (c : tie.Then1) → isBoolean (c .before .before .args .x) ≡ true
+first c = rw (toZ-ofZ (c .before .before .fits .x)) at (sym (c .before .is-boolean .ensures) ∙ c .if1 .taken)
+
+is-boolean-requires : tie.Need-is-boolean-requires
+is-boolean-requires c κs = search needs
+
+is-boolean-requires-2 : tie.Need-is-boolean-requires-2
+is-boolean-requires-2 c κs = search needs
+
+boolean-requires : tie.Need-boolean-requires
+boolean-requires c κs = search needs
+
+returns : tie.Need-returns
+returns c =
+    let f = c .before .before .before .before .before .fits .y in
+    let g : SFits w32 (c .boolean .result) = record { sfits = c .boolean .ok } in
+    let yes = rw (toZ-ofZ f) at (sym (c .before .before .is-boolean2 .ensures) ∙ c .before .if2 .taken) in
+    rw (toZ-ofZ g, first (c .before .before .before), yes, c .boolean .ensures)
+
+returns-2 : tie.Need-returns-2
+returns-2 c = rw (first (c .before .before), rw (toZ-ofZ (c .before .before .before .before .fits .y)) at (sym (c .before .is-boolean2 .ensures) ∙ c .if2 .left))
+
+returns-3 : tie.Need-returns-3
+returns-3 c = rw (rw (toZ-ofZ (c .before .before .fits .x)) at (sym (c .before .is-boolean .ensures) ∙ c .if1 .left))
+
+pub combined-spec : {M : Type 1} → statement M
+combined-spec =
+    tie.close
+    (tie.spec
+    is-boolean-requires
+    is-boolean-requires-2
+    boolean-requires
+    returns
+    returns-2
+    returns-3)

@@ -1,0 +1,3 @@
+// Decimal numbers: read from a word, and written.
+pub mod decimal;
+pub mod reading;
