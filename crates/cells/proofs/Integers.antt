@@ -5,7 +5,7 @@ use mathlib.Core.Bool.{Bool, true, false, cond}
 use native.Mathlib.Nat.{div-le-self, mul-le-mul, le-trans, le-refl, lt-of-le-of-lt}
 use native.Mathlib.Omega.{arith}
 use lib.Dec.{T, eqb, ltb}
-use lib.IntN.{ℤ, pos, negsuc, negℤ, subℕ, _+ℤ_, _-ℤ_, _*ℤ_, +ℤ-idl}
+use lib.IntN.{ℤ, pos, negsuc, negℤ, natAbs, subℕ, _+ℤ_, _-ℤ_, _*ℤ_, +ℤ-idl}
 use lib.Signed.{mag, ltZ, leZ, quotZ, remZ, mag-rem}
 use borrow.Author.Tests.{ltb-true, le-ltb, lt-ltb, eqb-true, eqb-false, eq-eqb, ne-eqb}
 use mir.Syntax.{Width, w32, w64}
@@ -14,7 +14,7 @@ use mir.Facts.{toZ-ofZ, toZ-pos, sfits-widen}
 use Rattle.model.specs.Parameters.{inRange, eqZ}
 
 -- BOUNDS
-mag-neg-pos : (n : ℕ) → mag (negℤ (pos n)) ≤ n
+pub mag-neg-pos : (n : ℕ) → mag (negℤ (pos n)) ≤ n
 mag-neg-pos zero = omega arith
 mag-neg-pos (suc n) = omega arith
 
@@ -87,6 +87,9 @@ zero-minus x = +ℤ-idl (negℤ x)
 pub zero-minus-fits : {w : Width} (x : ℤ) → SFits w (negℤ x) → SFits w (pos 0 -ℤ x)
 zero-minus-fits x h = rw (zero-minus x) h
 
+pub wide-minus-fits : (x : ℤ) → SFits w32 x → SFits w64 (pos 0 -ℤ x)
+wide-minus-fits x h = zero-minus-fits x (record { sfits = omega (arith, mag-neg x, h .sfits) })
+
 -- TESTS
 -- `==` on signed numbers compares their bits.
 bits-same : {w : Width} {a b : ℤ} → SFits w a → SFits w b → ofZ w a ≡ ofZ w b → a ≡ b
@@ -141,11 +144,11 @@ module _ (w : Width) (m : ℕ) (z : ℤ) (hm : m < 2 ^ hbits w) (hz : SFits w z)
   pub low-failed : leZ (toZ w (ofZ w (pos 0 -ℤ toZ w m))) (toZ w (ofZ w z)) ≡ false → false ≡ inRange m z
   low-failed h = rw (sym low-test ∙ h)
 
--- A value by the test of its sign.
-pub negative : (z : ℤ) → ltZ z (pos 0) ≡ true → z ≡ negsuc (mag z)
-negative (pos n) p = let h = ltb-true n 0 p in absurd (omega arith)
-negative (negsuc n) p = refl
+-- The size of a value, by the test of its sign.
+pub size-negative : (z : ℤ) → ltZ z (pos 0) ≡ true → pos 0 -ℤ z ≡ pos (natAbs z)
+size-negative (pos n) p = let h = ltb-true n 0 p in absurd (omega arith)
+size-negative (negsuc n) p = zero-minus (negsuc n)
 
-pub not-negative : (z : ℤ) → ltZ z (pos 0) ≡ false → z ≡ pos (mag z)
-not-negative (pos n) p = refl
-not-negative (negsuc n) p = absurd (subst T p tt)
+pub size-positive : (z : ℤ) → ltZ z (pos 0) ≡ false → z ≡ pos (natAbs z)
+size-positive (pos n) p = refl
+size-positive (negsuc n) p = absurd (subst T p tt)

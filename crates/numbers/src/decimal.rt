@@ -13,10 +13,11 @@ use model::DecimalReply;
 fn magnitude(value: i32) -> u32
     ensures { λ r. ⌜ r ≡ natAbs value ⌝ }
 {
-    if 0 <= value {
-        return value as u32;
+    let z = value as i64;
+    if z < 0 {
+        return (-z) as u32;
     }
-    (0 - value as i64) as u32
+    z as u32
 }
 
 // The count of n's digits.

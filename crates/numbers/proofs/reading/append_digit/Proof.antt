@@ -1,4 +1,4 @@
--- `numbers::append_digit` meets its contract. Assumes nothing.
+-- `reading::append_digit` meets its contract. Assumes nothing.
 use native.Mathlib.Omega.{arith}
 use borrow.Author.Needs.{needs}
 use Rattle.model.proofs.Fits.{is-between}

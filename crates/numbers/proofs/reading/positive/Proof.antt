@@ -1,4 +1,4 @@
--- `numbers::positive` meets its contract. Assumes nothing.
+-- `reading::positive` meets its contract. Assumes nothing.
 use Prim.Native.Nat.{_<_, _^_}
 use native.Mathlib.Omega.{arith}
 use borrow.Author.Needs.{needs}

@@ -1,4 +1,4 @@
--- `numbers::read_digits` meets its contract: n is the exact value e of the digits passed, cut at the cap, and all the digits come to those left
+-- `reading::read_digits` meets its contract: n is the exact value e of the digits passed, cut at the cap, and all the digits come to those left
 -- behind e. Assumes nothing.
 use Prim.Native.Nat.{ℕ, _+_, _*_, _-_, _^_, _≤_, min}
 use mathlib.Core.Path.{_≡_, refl, sym, ap, _∙_}

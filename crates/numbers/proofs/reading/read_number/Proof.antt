@@ -1,4 +1,4 @@
--- `numbers::read_number` meets its contract: the digits behind the sign, cut at the cap, are in range where the number is. Assumes nothing.
+-- `reading::read_number` meets its contract: the digits behind the sign, cut at the cap, are in range where the number is. Assumes nothing.
 use mathlib.Core.Path.{sym, ap, _∙_}
 use borrow.Author.Needs.{needs}
 use denote.Ref.{now}
