@@ -1,6 +1,6 @@
 -- A number byte by byte, as the loop that reads it meets it, and its range. Assumes nothing.
 use Prim.Native.Nat.{ℕ, zero, suc, _+_, _*_, _-_, _^_, _≤_, _<_, min}
-use mathlib.Core.Path.{_≡_, refl, sym, _∙_}
+use mathlib.Core.Path.{_≡_, refl, sym, ap, _∙_}
 use mathlib.Core.Bool.{Bool, true, false, cond}
 use mathlib.Core.List.{List, [], _∷_}
 use mathlib.Core.Option.{Option, none, some}
@@ -13,10 +13,13 @@ use lib.Seq.{drop-cons}
 use lib.Signed.{mag}
 use borrow.Author.Tests.{lt-ltb, le-ltb, le-leb, lt-leb, ne-eqb}
 use Rattle.model.specs.Parameters.{inRange}
+use Rattle.model.specs.Arithmetic.{value, code}
 use Rattle.model.specs.Numbers.{isDigit, digitsFrom, natural, mapped, number}
+use Rattle.model.specs.Step.{inputNumber}
 use Rattle.model.proofs.Ranges.{range-mag, mag-range}
+use Rattle.numbers.specs.declared.reading.Reading.{Reading}
 use Rattle.numbers.specs.declared.reading.Reading.the-variants.{Number, Outside}
-use Rattle.numbers.specs.Reading.{capped, positiveOf, negativeOf, readingOf}
+use Rattle.numbers.specs.Reading.{capped, positiveOf, negativeOf, readingOf, answerOf}
 
 -- DIGITS
 pub digits-end : (w : List ℕ) (i n : ℕ) → length w ≤ i → digitsFrom n (drop i w) ≡ some n
@@ -49,6 +52,19 @@ module _ (w : List ℕ) (inside : 0 < length w) where
 
   pub number-plain : ¬ (getD w 0 0 ≡ 43) → ¬ (getD w 0 0 ≡ 45) → number w ≡ mapped pos (natural w)
   number-plain p m = rw (drop-cons w 0 0) (simp (number, ne-eqb _ _ p, ne-eqb _ _ m))
+
+-- THE ANSWER
+answer-is : (m : ℕ) (o : Option ℤ) → answerOf (readingOf m o) ≡ inputNumber m o
+answer-is m none = refl
+answer-is m (some z) = go (inRange m z)
+  where
+    go : (b : Bool) → answerOf (cond b (Number z) Outside) ≡ cond b (value z) (code 2)
+    go true = refl
+    go false = refl
+
+-- What is read, and IN's answer to it.
+pub with-answer : (m : ℕ) (o : Option ℤ) {r : Reading} → r ≡ readingOf m o → (r ≡ readingOf m o) × (answerOf r ≡ inputNumber m o)
+with-answer m o e = (e, ap answerOf e ∙ answer-is m o)
 
 -- THE RANGE
 module _ (m : ℕ) (one : 1 ≤ m) where

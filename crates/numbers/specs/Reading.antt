@@ -5,6 +5,7 @@ use mathlib.Core.Option.{Option, none, some}
 use lib.Dec.{ltb, leb}
 use lib.IntN.{ℤ, pos, negℤ}
 use Rattle.model.specs.Parameters.{inRange}
+use Rattle.model.specs.Arithmetic.{Answer, value, code}
 use Rattle.numbers.specs.declared.reading.Digits.{Digits}
 use Rattle.numbers.specs.declared.reading.Digits.the-variants.{Value, Invalid}
 use Rattle.numbers.specs.declared.reading.Reading.{Reading}
@@ -15,10 +16,16 @@ abbrev pub capped : Option ℕ → Digits
 capped none = Invalid
 capped (some n) = Value (min (2 ^ 30) n)
 
--- A number of -m..m-1. `NotANumber` is IN's code 1 and load's 13, `Outside` IN's code 2 and load's 14.
+-- A number of -m..m-1. For load `NotANumber` is 13 and `Outside` 14.
 abbrev pub readingOf : (m : ℕ) → Option ℤ → Reading
 readingOf m none = NotANumber
 readingOf m (some z) = cond (inRange m z) (Number z) Outside
+
+-- IN's answer for each case: "Not an optional + or - followed by digits only, at least one: code 1. Outside the range: code 2."
+abbrev pub answerOf : Reading → Answer
+answerOf NotANumber = code 1
+answerOf (Number z) = value z
+answerOf Outside = code 2
 
 -- The number of digits behind no sign or a plus.
 abbrev pub positiveOf : (m : ℕ) → Digits → Reading

@@ -4,7 +4,8 @@ ghost use mathlib.Core.Bool.{true};
 ghost use Prim.Native.Nat.{_+_, _-_, _*_, _^_, _≤_, min};
 ghost use lib.ListN.{drop};
 ghost use Rattle.model.specs.Numbers.{isDigit, natural, number};
-ghost use Rattle.numbers.specs.Reading.{capped, positiveOf, negativeOf, readingOf};
+ghost use Rattle.model.specs.Step.{inputNumber};
+ghost use Rattle.numbers.specs.Reading.{capped, positiveOf, negativeOf, readingOf, answerOf};
 use text::bytes::is_digit;
 
 // Greater values are held as this one, which is outside every range already.
@@ -90,6 +91,7 @@ fn negative(d: Digits, m: u32) -> Reading
 pub fn read_number(w: &[u8], m: u32) -> Reading
     requires { ⌜ (1 ≤ m) × (m ≤ 2 ^ 29) ⌝ }
     ensures { λ r. ⌜ r ≡ readingOf m (number (now (w .entry))) ⌝ }
+    ensures answer { λ r. ⌜ answerOf r ≡ inputNumber m (number (now (w .entry))) ⌝ }
 {
     if w.len() == 0 {
         return Reading::NotANumber;

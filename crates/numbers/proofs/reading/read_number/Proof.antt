@@ -3,16 +3,16 @@ use mathlib.Core.Path.{sym, ap, _∙_}
 use borrow.Author.Needs.{needs}
 use denote.Ref.{now}
 use lib.ListN.{drop}
-use Rattle.model.specs.Numbers.{natural}
+use Rattle.model.specs.Numbers.{natural, number}
 use Rattle.numbers.specs.Reading.{positiveOf, negativeOf, readingOf}
-use Rattle.numbers.proofs.ReadingLaws.{number-none, number-plus, number-minus, number-plain, positive-capped, negative-capped}
+use Rattle.numbers.proofs.ReadingLaws.{with-answer, number-none, number-plus, number-minus, number-plain, positive-capped, negative-capped}
 use Rattle.numbers.proofs.reading.read_number.Statement.{statement}
 use Rattle.numbers.proofs.reading.read_number.Tie as tie
 
 returns : tie.Need-returns
 returns c =
     let a = c .before .before .args in
-    sym (ap (readingOf (a .m)) (number-none (now (a .w)) (c .if1 .taken)))
+    with-answer (a .m) (number (now (a .w))) (sym (ap (readingOf (a .m)) (number-none (now (a .w)) (c .if1 .taken))))
 
 shared-slice-read-b : tie.Need-shared-slice-read-b
 shared-slice-read-b c = search needs
@@ -28,10 +28,11 @@ returns-2 c =
     let at = c .before .before .before .before .before .before in
     let m = at .args .m in
     let w = now (at .args .w) in
-    c .positive .ensures
+    with-answer m (number w)
+    (c .positive .ensures
     ∙ ap (positiveOf m) (c .before .read-digits .ensures)
     ∙ positive-capped m (at .pre .0) (at .pre .1) (natural (drop 1 w))
-    ∙ sym (ap (readingOf m) (number-plus w (search needs) (c .before .before .if2 .taken)))
+    ∙ sym (ap (readingOf m) (number-plus w (search needs) (c .before .before .if2 .taken))))
 
 read-digits-requires-2 : tie.Need-read-digits-requires-2
 read-digits-requires-2 c κs = search needs
@@ -44,10 +45,11 @@ returns-3 c =
     let at = c .before .before .before .before .before .before .before in
     let m = at .args .m in
     let w = now (at .args .w) in
-    c .negative .ensures
+    with-answer m (number w)
+    (c .negative .ensures
     ∙ ap (negativeOf m) (c .before .read-digits2 .ensures)
     ∙ negative-capped m (at .pre .0) (at .pre .1) (natural (drop 1 w))
-    ∙ sym (ap (readingOf m) (number-minus w (search needs) (c .before .before .if3 .taken)))
+    ∙ sym (ap (readingOf m) (number-minus w (search needs) (c .before .before .if3 .taken))))
 
 read-digits-requires-3 : tie.Need-read-digits-requires-3
 read-digits-requires-3 c κs = search needs
@@ -60,10 +62,11 @@ returns-4 c =
     let at = c .before .before .before .before .before .before .before in
     let m = at .args .m in
     let w = now (at .args .w) in
-    c .positive2 .ensures
+    with-answer m (number w)
+    (c .positive2 .ensures
     ∙ ap (positiveOf m) (c .before .read-digits3 .ensures)
     ∙ positive-capped m (at .pre .0) (at .pre .1) (natural w)
-    ∙ sym (ap (readingOf m) (number-plain w (search needs) (c .before .before .before .if2 .left) (c .before .before .if3 .left)))
+    ∙ sym (ap (readingOf m) (number-plain w (search needs) (c .before .before .before .if2 .left) (c .before .before .if3 .left))))
 
 pub read-number-spec : {M : Type 1} → statement M
 read-number-spec =
