@@ -35,7 +35,7 @@ const LIMITS: [u32; 23] = [
     536870912,
 ];
 
-// M.
+// M of a K within its limits.
 pub fn limit_of(k: u32) -> u32
     requires { ⌜ (8 ≤ k) × (k ≤ 30) ⌝ }
     ensures { λ r. ⌜ r ≡ limit k ⌝ }
