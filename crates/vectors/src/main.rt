@@ -20,12 +20,14 @@ fn put_bytes(text: &[u8], n: usize) {
     }
 }
 
+// A value and a blank.
 fn put(value: i32) {
     let mut text = [b' '; 12];
     let reply = write_decimal(value, &mut text);
     put_bytes(&text, reply.count);
 }
 
+// The return code: 0 to 2, or 3 for any other.
 fn put_code(code: u32) {
     match code {
         0 => put(0),
@@ -35,6 +37,7 @@ fn put_code(code: u32) {
     }
 }
 
+// The return code, then the value.
 fn put_computed(c: Computed) {
     put_code(c.code);
     put(c.value);
@@ -103,6 +106,7 @@ fn put_all(m: u32, x: i32, y: i32)
     put_shifts(m, x);
 }
 
+// The results, if both values are in the range, and LF.
 fn put_line(m: u32, x: i32, y: i32)
     requires { ⌜ IsLimit m ⌝ }
 {
