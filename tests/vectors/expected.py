@@ -1,25 +1,29 @@
-"""What the program `vectors` must print: documents 01 and 003 again, in Python's own integers.
+"""What the program `vectors` must print, by the second machine of tests/definitions.
 
 `expected.py --write` writes crates/vectors/stdin and stdout; without it, both are compared with what is stored.
 """
 import os
 import random
-import re
 import sys
 
-FOLDER = os.path.join(os.path.dirname(os.path.abspath(__file__)), "..", "..", "crates", "vectors")
-BLANKS = " \t\r\n"
+HERE = os.path.dirname(os.path.abspath(__file__))
+FOLDER = os.path.join(HERE, "..", "..", "crates", "vectors")
+sys.path.insert(0, os.path.join(HERE, "..", "definitions"))
+from model import Failure, Machine, read_number
+
+# In the order of the program; those of WITH_CODE print their return code too.
+WITH_CODE = ("NEG", "ABS", "ADD", "SUB", "MUL", "DIV", "MOD", "NOT", "AND", "OR", "XOR", "NAND", "NOR")
+NAMES = WITH_CODE[:7] + ("CMPEQ", "CMPNEQ", "CMPLT", "CMPGT", "CMPLE", "CMPGE") + WITH_CODE[7:] + (
+    "RNOT", "RAND", "ROR", "RXOR", "RNAND", "RNOR", "RSL", "RSR", "ASR")
 
 
 def vectors():
     """Pairs of edges for K = 8 and 30, random pairs for every K, and odd spellings."""
     rng = random.Random(3)
     lines = []
-    for k, small in ((8, (-10, -1, 0, 1, 13)), (30, (-1, 0, 3))):
+    for k, small in ((8, (-65, -10, -1, 0, 1, 13, 63)), (30, (-1, 0, 3))):
         m = 2 ** (k - 1)
-        edges = (-m, -m + 1, -m // 2 - 1, -m // 2, *small, m // 2 - 1, m // 2, m - 1)
-        if k == 30:
-            edges = (-m, -m // 2, *small, m // 2, m - 1)
+        edges = (-m, -m + 1, -m // 2, *small, m // 2, m - 1)
         lines += [f"{k} {x} {y}" for x in edges for y in edges]
     for k in range(8, 31):
         m = 2 ** (k - 1)
@@ -33,48 +37,30 @@ def vectors():
 
 def number(word, m):
     """As the program takes it: 0 for what is no number, 1 for what is outside -M..M-1."""
-    if not re.fullmatch(r"[+-]?[0-9]+", word):
+    value = read_number(word)
+    if value is None:
         return 0
-    return int(word) if -m <= int(word) < m else 1
+    return value if -m <= value < m else 1
 
 
 def results(k, x, y):
-    m = 2 ** (k - 1)
-    full = 2 ** k
-
-    def checked(z):
-        return (0, z) if -m <= z < m else (1, 0)
-
-    def quotient():
-        q = abs(x) // abs(y)
-        return q if (x < 0) == (y < 0) else -q
-
-    def boolean(f):
-        return (0, -1 if f(x == -1, y == -1) else 0) if x in (-1, 0) and y in (-1, 0) else (1, 0)
-
-    def signed(u):
-        u %= full
-        return u if u < m else u - full
-
-    u, v = x % full, y % full
-    out = [checked(-x), checked(abs(x)), checked(x + y), checked(x - y), checked(x * y)]
-    out.append((2, 0) if y == 0 else checked(quotient()))
-    out.append((2, 0) if y == 0 else (0, x - y * quotient()))
-    out.append([-1 if c else 0 for c in (x == y, x != y, x < y, x > y, x <= y, x >= y)])
-    out.append(((0, -1 - x) if x in (-1, 0) else (1, 0)))
-    out += [boolean(lambda a, b: a and b), boolean(lambda a, b: a or b), boolean(lambda a, b: a != b)]
-    out += [boolean(lambda a, b: not (a and b)), boolean(lambda a, b: not (a or b))]
-    out.append([signed(~u), signed(u & v), signed(u | v), signed(u ^ v), signed(~(u & v)), signed(~(u | v))])
-    out.append([signed(u << 1), signed(u >> 1), x // 2])
-    return [n for part in out for n in part]
+    machine = Machine((k, 1, 1, 0, 1), b"", {"iar": 0, "ircr": 0, "shr": -1, "place": 0}, [0], [0])
+    for name in NAMES:
+        try:
+            code, value = 0, machine.result(name, [x, y])
+        except Failure as failure:
+            code, value = failure.args[0], 0
+        if name in WITH_CODE:
+            yield code
+        yield value
 
 
 def expected(text):
-    words = [w for w in re.split("[" + BLANKS + "]+", text) if w]
+    words = text.encode().split()
     lines = []
     for i in range(0, len(words), 3):
-        k, x, y = words[i:i + 3]
-        k = int(k) if re.fullmatch("[0-9]+", k) and 8 <= int(k) <= 30 else 8
+        k, x, y = words[i : i + 3]
+        k = int(k) if k.isdigit() and 8 <= int(k) <= 30 else 8
         m = 2 ** (k - 1)
         lines.append("".join(f"{n} " for n in results(k, number(x, m), number(y, m))) + "\n")
     return "".join(lines)

@@ -1,8 +1,8 @@
 -- Laws about ℤ: bounds on `mag` of the operations, what follows for the signed widths, and tests. Assumes nothing.
 use Prim.Native.Nat.{ℕ, zero, suc, _+_, _*_, _-_, _/_, _^_, _≤_, _<_}
 use mathlib.Core.Path.{_≡_, refl, sym, ap, subst, _∙_}
-use mathlib.Core.Bool.{Bool, true, false, cond}
-use native.Mathlib.Nat.{div-le-self, mul-le-mul, le-trans, le-refl, lt-of-le-of-lt}
+use mathlib.Core.Bool.{Bool, true, false}
+use native.Mathlib.Nat.{div-le-self, mul-le-mul, le-trans, le-refl, le-suc, lt-of-le-of-lt}
 use native.Mathlib.Omega.{arith}
 use lib.Dec.{T, eqb, ltb}
 use lib.IntN.{ℤ, pos, negsuc, negℤ, natAbs, subℕ, _+ℤ_, _-ℤ_, _*ℤ_, +ℤ-idl}
@@ -11,7 +11,9 @@ use borrow.Author.Tests.{ltb-true, le-ltb, lt-ltb, eqb-true, eqb-false, eq-eqb, 
 use mir.Syntax.{Width, w32, w64}
 use mir.Val.{SFits, hbits, toZ, ofZ}
 use mir.Facts.{toZ-ofZ, toZ-pos, sfits-widen}
+use mir.ValLaws.{sfits-le}
 use Rattle.model.specs.Parameters.{inRange, eqZ}
+use Rattle.model.proofs.Fits.{by-cond}
 
 -- BOUNDS
 pub mag-neg-pos : (n : ℕ) → mag (negℤ (pos n)) ≤ n
@@ -22,12 +24,8 @@ pub mag-neg : (z : ℤ) → mag (negℤ z) ≤ suc (mag z)
 mag-neg (pos n) = let h = mag-neg-pos n in omega arith
 mag-neg (negsuc n) = omega arith
 
-cond-mag : (c : Bool) (x y : ℤ) (n : ℕ) → mag x ≤ n → mag y ≤ n → mag (cond c x y) ≤ n
-cond-mag true x y n h k = h
-cond-mag false x y n h k = k
-
 mag-sub : (a b : ℕ) → mag (subℕ a b) ≤ a + b
-mag-sub a b = cond-mag (ltb a b) (negsuc (b - suc a)) (pos (a - b)) (a + b) (omega arith) (omega arith)
+mag-sub a b = by-cond (λ (z : ℤ). mag z ≤ a + b) (ltb a b) (negsuc (b - suc a)) (pos (a - b)) (λ h. omega arith) (λ h. omega arith)
 
 pub mag-add : (x y : ℤ) → mag (x +ℤ y) ≤ suc (mag x + mag y)
 mag-add (pos a) (pos b) = omega arith
@@ -38,13 +36,10 @@ mag-add (negsuc a) (negsuc b) = omega arith
 pub mag-minus : (x y : ℤ) → mag (x -ℤ y) ≤ suc (mag x + suc (mag y))
 mag-minus x y = let h = mag-add x (negℤ y) in let k = mag-neg y in omega arith
 
-mul-up : (a b c d : ℕ) → a ≤ c → b ≤ d → a * b ≤ c * d
-mul-up a b c d h k = mul-le-mul h k
-
 pub mag-mul : (x y : ℤ) → mag (x *ℤ y) ≤ suc (mag x) * suc (mag y)
-mag-mul (pos a) (pos b) = mul-up a b (suc a) (suc b) (omega arith) (omega arith)
-mag-mul (pos a) (negsuc b) = le-trans (mag-neg-pos (a * suc b)) (mul-up a (suc b) (suc a) (suc b) (omega arith) (omega arith))
-mag-mul (negsuc a) (pos b) = le-trans (mag-neg-pos (suc a * b)) (mul-up (suc a) b (suc a) (suc b) (omega arith) (omega arith))
+mag-mul (pos a) (pos b) = mul-le-mul (le-suc a) (le-suc b)
+mag-mul (pos a) (negsuc b) = le-trans (mag-neg-pos (a * suc b)) (mul-le-mul (le-suc a) (le-refl (suc b)))
+mag-mul (negsuc a) (pos b) = le-trans (mag-neg-pos (suc a * b)) (mul-le-mul (le-refl (suc a)) (le-suc b))
 mag-mul (negsuc a) (negsuc b) = le-refl (suc a * suc b)
 
 pub mag-quot : (x y : ℤ) → mag (quotZ x y) ≤ suc (mag x)
@@ -71,7 +66,7 @@ module _ {x y : ℤ} (hx : SFits w32 x) (hy : SFits w32 y) where
   quot-fits = record { sfits = let h = mag-quot x y in omega (arith, hx .sfits) }
 
   pub rem-fits : SFits w32 (remZ x y)
-  rem-fits = record { sfits = lt-of-le-of-lt (mag-rem x y) (hx .sfits) }
+  rem-fits = sfits-le (mag-rem x y) hx
 
 -- What a cast from 32 bits to 64 leaves.
 pub cast-fits : {x : ℤ} → SFits w32 x → SFits w64 (toZ w32 (ofZ w32 x))

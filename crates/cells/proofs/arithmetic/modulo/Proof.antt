@@ -1,11 +1,16 @@
 use mathlib.Core.Path.{refl}
 use native.Mathlib.Omega.{arith}
-use lib.Signed.{mag-rem}
+use lib.Signed.{remZ, mag-rem}
 use mir.Facts.{toZ-ofZ}
+use mir.Syntax.{w32}
+use mir.Val.{SFits}
 use Rattle.model.specs.Arithmetic.{remainder}
 use Rattle.cells.proofs.Integers.{widen, cast-fits, cast-same, quot-fits, rem-fits, is-zero, not-zero, wide-nonzero}
 use Rattle.cells.proofs.arithmetic.modulo.Statement.{statement}
 use Rattle.cells.proofs.arithmetic.modulo.Tie as tie
+
+fits : (c : tie.Else1) → SFits w32 (remZ (c .before .args .x) (c .before .args .y))
+fits c = rem-fits (c .before .fits .x) (c .before .fits .y)
 
 returns : tie.Need-returns
 unfolding remainder
@@ -24,18 +29,14 @@ rem-t6 c =
     rw (cast-same fx, cast-same fy, toZ-ofZ fy) (wide-nonzero (c .before .args .y) fy (c .if1 .left), quot-fits fx fy)
 
 cast-t7 : tie.Need-cast-t7
-cast-t7 c =
-    let fx = c .before .fits .x in
-    let fy = c .before .fits .y in
-    let g = rem-fits fx fy in
-    rw (cast-same fx, cast-same fy, toZ-ofZ (widen g)) g
+cast-t7 c = rw (cast-same (c .before .fits .x), cast-same (c .before .fits .y), toZ-ofZ (widen (fits c))) (fits c)
 
 returns-2 : tie.Need-returns-2
 unfolding remainder
 returns-2 c =
     let fx = c .before .fits .x in
     let fy = c .before .fits .y in
-    let g = rem-fits fx fy in
+    let g = fits c in
     rw (cast-same fx, cast-same fy, toZ-ofZ (widen g), toZ-ofZ g, not-zero fy (c .if1 .left)) (refl, mag-rem (c .before .args .x) (c .before .args .y))
 
 pub modulo-spec : {M : Type 1} → statement M

@@ -11,6 +11,13 @@ use Rattle.logic.proofs.booleans.combined.Tie as tie
 first : (c : tie.Then1) → isBoolean (c .before .before .args .x) ≡ true
 first c = rw (toZ-ofZ (c .before .before .fits .x)) at (sym (c .before .is-boolean .ensures) ∙ c .if1 .taken)
 
+-- The test of the second value.
+second : (c : tie.After-is-boolean2) → c .is-boolean2 .result ≡ isBoolean (c .before .before .before .args .y)
+second c =
+    let fx = c .before .before .before .fits .x in
+    let fy = c .before .before .before .fits .y in
+    simp toZ-ofZ at (c .is-boolean2 .ensures)
+
 is-boolean-requires : tie.Need-is-boolean-requires
 is-boolean-requires c κs = search needs
 
@@ -22,13 +29,11 @@ boolean-requires c κs = search needs
 
 returns : tie.Need-returns
 returns c =
-    let f = c .before .before .before .before .before .fits .y in
     let g : SFits w32 (c .boolean .result) = record { sfits = c .boolean .ok } in
-    let yes = rw (toZ-ofZ f) at (sym (c .before .before .is-boolean2 .ensures) ∙ c .before .if2 .taken) in
-    rw (toZ-ofZ g, first (c .before .before .before), yes, c .boolean .ensures)
+    rw (toZ-ofZ g, first (c .before .before .before), sym (second (c .before .before)) ∙ c .before .if2 .taken, c .boolean .ensures)
 
 returns-2 : tie.Need-returns-2
-returns-2 c = rw (first (c .before .before), rw (toZ-ofZ (c .before .before .before .before .fits .y)) at (sym (c .before .is-boolean2 .ensures) ∙ c .if2 .left))
+returns-2 c = rw (first (c .before .before), sym (second (c .before)) ∙ c .if2 .left)
 
 returns-3 : tie.Need-returns-3
 returns-3 c = rw (rw (toZ-ofZ (c .before .before .fits .x)) at (sym (c .before .is-boolean .ensures) ∙ c .if1 .left))

@@ -1,6 +1,8 @@
 use borrow.Author.Needs.{needs}
-use mathlib.Core.Path.{sym, _∙_}
+use mathlib.Core.Path.{_≡_, sym, _∙_}
+use mathlib.Core.Bool.{true, false}
 use mir.Facts.{toZ-ofZ}
+use Rattle.model.specs.Parameters.{isTrue}
 use Rattle.logic.proofs.booleans.is_boolean.Statement.{statement}
 use Rattle.logic.proofs.booleans.is_boolean.Tie as tie
 
@@ -8,7 +10,9 @@ equal-requires : tie.Need-equal-requires
 equal-requires c κs = search needs
 
 returns : tie.Need-returns
-returns c = rw (rw (toZ-ofZ (c .before .before .fits .x)) at (sym (c .before .equal .ensures) ∙ c .if1 .taken))
+returns c =
+    let h : isTrue (c .before .before .args .x) ≡ true = rw (toZ-ofZ (c .before .before .fits .x)) at (sym (c .before .equal .ensures) ∙ c .if1 .taken) in
+    rw h
 
 equal-requires-2 : tie.Need-equal-requires-2
 equal-requires-2 c κs = search needs
@@ -16,7 +20,8 @@ equal-requires-2 c κs = search needs
 returns-2 : tie.Need-returns-2
 returns-2 c =
     let f = c .before .before .before .fits .x in
-    rw (rw (toZ-ofZ f) at (sym (c .before .before .equal .ensures) ∙ c .before .if1 .left)) (rw (toZ-ofZ f) at (c .equal2 .ensures))
+    let h : isTrue (c .before .before .before .args .x) ≡ false = rw (toZ-ofZ f) at (sym (c .before .before .equal .ensures) ∙ c .before .if1 .left) in
+    rw h (rw (toZ-ofZ f) at (c .equal2 .ensures))
 
 pub is-boolean-spec : {M : Type 1} → statement M
 is-boolean-spec = tie.close (tie.spec equal-requires returns equal-requires-2 returns-2)
