@@ -1,0 +1,14 @@
+-- The table of forms, read at an instruction's number. Assumes nothing.
+use Prim.Native.Nat.{ℕ, _-_}
+use mathlib.Core.Path.{_≡_, refl}
+use lib.ListN.{length, getD, List·getD-map}
+use Rattle.model.specs.Instructions.{Row, rows, rowOf}
+use Rattle.image.specs.Forms.{packed, formTable}
+
+pub table-length : length formTable ≡ 54
+unfolding formTable
+table-length = refl
+
+pub table-entry : (n : ℕ) → getD formTable (n - 1) 0 ≡ packed (rowOf n .forms)
+unfolding formTable packed rowOf
+table-entry n = List·getD-map (λ (r : Row). packed (r .forms)) rows (n - 1) _

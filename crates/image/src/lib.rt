@@ -1,0 +1,2 @@
+// The words of an image: what a cell says, what its instruction costs and writes, and the check of a whole image.
+pub mod forms;
