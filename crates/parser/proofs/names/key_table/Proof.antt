@@ -1,0 +1,13 @@
+use mathlib.Core.Path.{refl}
+use Rattle.model.specs.Load.{names}
+use Rattle.parser.specs.Keys.{keyFrom, keyTable}
+use Rattle.parser.proofs.names.key_table.Statement.{statement}
+use Rattle.parser.proofs.names.key_table.Tie as tie
+
+-- src/names.rt:64:1
+returns : tie.Need-returns
+unfolding keyTable keyFrom names
+returns c = refl
+
+pub key-table-spec : {M : Type 1} → statement M
+key-table-spec = tie.close (tie.spec returns)
