@@ -1,12 +1,12 @@
 -- An argument by its first letters, and its word at a place. Assumes nothing.
-use Prim.Native.Nat.{ℕ, suc, _+_, _*_, _/_, _%_, _^_, _≤_, _<_, min}
-use mathlib.Core.Path.{_≡_, refl, sym, ap, _∙_}
+use Prim.Native.Nat.{ℕ, suc, _+_, _/_, _%_, _^_, _≤_, _<_, min}
+use mathlib.Core.Path.{_≡_, refl, ap, _∙_}
 use mathlib.Core.Bool.{Bool, true, false, cond, true≢false}
 use mathlib.Core.List.{List, [], _∷_}
 use mathlib.Core.Option.{Option, none, some}
 use native.Mathlib.Decide.{decLt}
 use native.Mathlib.Omega.{arith}
-use lib.Dec.{eqb, ltb}
+use lib.Dec.{ltb}
 use lib.IntN.{ℤ, pos, negsuc, natAbs, _+ℤ_}
 use lib.ListN.{length, getD, drop}
 use lib.Seq.{drop-cons}

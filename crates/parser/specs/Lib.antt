@@ -1,2 +1,3 @@
 pub mod Keys
 pub mod Arguments
+pub mod Lines

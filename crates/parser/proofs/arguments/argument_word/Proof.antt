@@ -1,35 +1,30 @@
-use native.Mathlib.Omega.{arith}
 use mathlib.Core.Path.{sym, ap, _∙_}
 use mathlib.Core.Option.{Option}
+use native.Mathlib.Omega.{arith}
+use borrow.Author.Needs.{needs}
 use denote.Ref.{now}
 use Rattle.model.specs.Words.{Argument, wordOf}
 use Rattle.model.specs.Load.{specialOf, placed}
 use Rattle.parser.specs.declared.arguments.Placed.the-variants.{Word}
 use Rattle.parser.specs.Arguments.{placedOf}
 use Rattle.parser.proofs.ArgumentLaws.{special-high, argument-none, argument-special, argument-register, argument-direct, argument-number, special-barred, special-placed}
-use borrow.Author.Needs.{needs}
 use Rattle.parser.proofs.arguments.argument_word.Statement.{statement}
 use Rattle.parser.proofs.arguments.argument_word.Tie as tie
 
--- src/arguments.rt:119:9
 returns : tie.Need-returns
 returns c =
     let a = c .before .before .args in
     sym (ap (λ (o : Option Argument). placedOf (placed (a .p) (a .form) o)) (argument-none (now (a .w)) (c .if1 .taken)))
 
--- src/arguments.rt:121:19
 shared-slice-read-upper : tie.Need-shared-slice-read-upper
 shared-slice-read-upper c = search needs
 
--- src/arguments.rt:121:9
 upper-requires : tie.Need-upper-requires
 upper-requires c κs = search needs
 
--- src/arguments.rt:123:9
 register-word-requires : tie.Need-register-word-requires
 register-word-requires c κs = search needs
 
--- src/arguments.rt:123:9
 returns-2 : tie.Need-returns-2
 returns-2 c =
     let at = c .before in
@@ -38,11 +33,9 @@ returns-2 c =
     ∙ sym (ap (λ (o : Option Argument). placedOf (placed (a .p) (a .form) o))
     (argument-register (now (a .w)) (search needs) (sym (at .before .upper .ensures) ∙ at .if2 .taken)))
 
--- src/arguments.rt:126:9
 direct-word-requires : tie.Need-direct-word-requires
 direct-word-requires c κs = search needs
 
--- src/arguments.rt:126:9
 returns-3 : tie.Need-returns-3
 returns-3 c =
     let at = c .before in
@@ -51,15 +44,12 @@ returns-3 c =
     ∙ sym (ap (λ (o : Option Argument). placedOf (placed (a .p) (a .form) o))
     (argument-direct (now (a .w)) (search needs) (sym (at .before .before .upper .ensures) ∙ at .if3 .taken)))
 
--- src/arguments.rt:128:9
 special-requires : tie.Need-special-requires
 special-requires c κs = search needs
 
--- src/arguments.rt:130:9
 number-word-requires : tie.Need-number-word-requires
 number-word-requires c κs = search needs
 
--- src/arguments.rt:130:9
 returns-4 : tie.Need-returns-4
 returns-4 c =
     let at = c .before in
@@ -71,14 +61,12 @@ returns-4 c =
     (argument-number (now (a .w)) (search needs) (λ q. e .before .if2 .left (u ∙ q)) (λ q. e .if3 .left (u ∙ q))
     (sym (at .before .special .ensures) ∙ at .if4 .taken)))
 
--- src/arguments.rt:133:29
 add-t13 : tie.Need-add-t13
 add-t13 c =
     let at = c .before .before in
     let h = special-high (now (at .before .before .before .before .before .before .before .args .w)) in
     omega (arith, at .special .ensures)
 
--- src/arguments.rt:133:9
 returns-5 : tie.Need-returns-5
 returns-5 c =
     let at = c .before .before in
@@ -88,7 +76,6 @@ returns-5 c =
     ∙ sym (ap placedOf (special-placed (a .p) (a .form) (c .if5 .taken) (specialOf w)))
     ∙ sym (ap (λ (o : Option Argument). placedOf (placed (a .p) (a .form) o)) (argument-special w (λ q. c .before .if4 .left (at .special .ensures ∙ q))))
 
--- src/arguments.rt:114:1
 returns-6 : tie.Need-returns-6
 returns-6 c =
     let at = c .before .before in

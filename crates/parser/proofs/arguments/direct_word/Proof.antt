@@ -1,50 +1,43 @@
-use native.Mathlib.Omega.{arith}
 use mathlib.Core.Path.{sym, ap, _∙_}
-use denote.Ref.{now}
 use mathlib.Core.Option.{Option}
+use native.Mathlib.Omega.{arith}
 use lib.ListN.{drop}
+use borrow.Author.Needs.{needs}
+use denote.Ref.{now}
 use Rattle.model.specs.Numbers.{natural}
 use Rattle.model.specs.Words.{Argument}
 use Rattle.model.specs.Load.{placed}
 use Rattle.model.proofs.Fits.{limits}
 use Rattle.parser.specs.Arguments.{indexedOf, placedOf}
 use Rattle.parser.proofs.ArgumentLaws.{after-none, after-other, after-m, direct-barred, direct-placed}
-use borrow.Author.Needs.{needs}
 use Rattle.parser.proofs.arguments.direct_word.Statement.{statement}
 use Rattle.parser.proofs.arguments.direct_word.Tie as tie
 
--- src/arguments.rt:75:9
 returns : tie.Need-returns
 returns c =
     let a = c .before .before .args in
     sym (ap (λ (o : Option Argument). placedOf (placed (a .p) (a .form) o)) (after-none (now (a .w)) (omega arith)))
 
--- src/arguments.rt:77:14
 shared-slice-read-upper : tie.Need-shared-slice-read-upper
 shared-slice-read-upper c = search needs
 
--- src/arguments.rt:77:8
 upper-requires : tie.Need-upper-requires
 upper-requires c κs = search needs
 
--- src/arguments.rt:78:9
 returns-2 : tie.Need-returns-2
 returns-2 c =
     let a = c .before .before .before .before .before .args in
     sym (ap (λ (o : Option Argument). placedOf (placed (a .p) (a .form) o)) (after-other (now (a .w)) (search needs) (λ e. c .if2 .taken (c .before .upper .ensures ∙ e))))
 
--- src/arguments.rt:81:32
 read-digits-requires : tie.Need-read-digits-requires
 read-digits-requires c κs = search needs
 
--- src/arguments.rt:81:9
 indexed-requires : tie.Need-indexed-requires
 indexed-requires c κs =
     let a = c .before .before .before .before .before .before .before in
     let l = limits (a .args .p) (a .pre) in
     (omega arith, omega (arith, l .b-high, l .s-high))
 
--- src/arguments.rt:81:9
 returns-3 : tie.Need-returns-3
 returns-3 c =
     let a = c .before .before .before .before .before .before .before .before in
@@ -57,7 +50,6 @@ returns-3 c =
     ∙ direct-placed p (a .args .form) (c .before .before .if3 .taken) (omega (arith, l .b-high, l .s-high)) (natural (drop 2 w))
     ∙ sym (ap (λ (o : Option Argument). placedOf (placed p (a .args .form) o)) (after-m w (search needs) m))
 
--- src/arguments.rt:70:1
 returns-4 : tie.Need-returns-4
 returns-4 c =
     let a = c .before .before .before .before .before .before .args in

@@ -3,35 +3,27 @@ use borrow.Author.Needs.{needs}
 use Rattle.parser.proofs.arguments.indexed.Statement.{statement}
 use Rattle.parser.proofs.arguments.indexed.Tie as tie
 
--- src/arguments.rt:47:28
 enum-told : tie.Need-enum-told
 enum-told c = search needs
 
--- src/arguments.rt:48:23
 enum-known-d : tie.Need-enum-known-d
 enum-known-d c = search needs
 
--- src/arguments.rt:50:30
 mul-t9 : tie.Need-mul-t9
 mul-t9 c = search needs
 
--- src/arguments.rt:50:50
 cast-t10 : tie.Need-cast-t10
 cast-t10 c = search needs
 
--- src/arguments.rt:50:30
 add-t11 : tie.Need-add-t11
 add-t11 c = search needs
 
--- src/arguments.rt:42:1
 returns : tie.Need-returns
 returns c = search needs
 
--- src/arguments.rt:42:1
 returns-2 : tie.Need-returns-2
 returns-2 c = simp (c .before .before .d .given .1, lt-ltb _ _ (c .if1 .taken))
 
--- src/arguments.rt:42:1
 returns-3 : tie.Need-returns-3
 returns-3 c = simp (c .before .before .d .given .1, le-ltb _ _ (c .if1 .left))
 

@@ -1,13 +1,13 @@
-use native.Mathlib.Omega.{arith}
 use Prim.Native.Nat.{_+_, _<_, _^_}
 use mathlib.Core.Path.{_≡_, refl}
-use Rattle.cells.proofs.Integers.{cast-fits, cast-same}
-use mir.Facts.{toZ-ofZ}
+use native.Mathlib.Omega.{arith}
 use lib.IntN.{ℤ, pos, negsuc, natAbs, _+ℤ_}
 use lib.Signed.{mag}
+use mir.Facts.{toZ-ofZ}
 use mir.Val.{SFits}
-use Rattle.model.specs.Words.{wordOf, numberBits}
 use mir.Syntax.{w64}
+use Rattle.cells.proofs.Integers.{cast-fits, cast-same}
+use Rattle.model.specs.Words.{wordOf, numberBits}
 use Rattle.parser.proofs.ArgumentLaws.{word-negative, word-positive}
 use Rattle.parser.proofs.arguments.literal_word.Statement.{statement}
 use Rattle.parser.proofs.arguments.literal_word.Tie as tie
@@ -27,31 +27,24 @@ bits (negsuc n) h = omega arith
 word-fits : (c : tie.Then1) → SFits w64 (pos (wordOf 3 (numberBits (c .before .args .z))))
 word-fits c = record { sfits = omega (arith, bits (c .before .args .z) (c .before .pre)) }
 
--- src/arguments.rt:92:30
 cast-result : tie.Need-cast-result
 cast-result c = cast-fits (c .before .fits .z)
 
--- src/arguments.rt:92:17
 add-result : tie.Need-add-result
 add-result c = rw (cast-same (c .before .fits .z), negative c) (word-fits c)
 
--- src/arguments.rt:92:16
 cast-result-2 : tie.Need-cast-result-2
 cast-result-2 c = rw (cast-same (c .before .fits .z), negative c, toZ-ofZ (word-fits c)) (tt, record { fits = omega (arith, bits (c .before .args .z) (c .before .pre)) })
 
--- src/arguments.rt:92:9
 returns : tie.Need-returns
 returns c = rw (cast-same (c .before .fits .z), negative c, toZ-ofZ (word-fits c)) refl
 
--- src/arguments.rt:94:18
 cast-result-3 : tie.Need-cast-result-3
 cast-result-3 c = rw (toZ-ofZ (c .before .fits .z), positive c .0) (tt, record { fits = omega (arith, positive c .1, bits (c .before .args .z) (c .before .pre)) })
 
--- src/arguments.rt:94:5
 add-result-2 : tie.Need-add-result-2
 add-result-2 c = rw (toZ-ofZ (c .before .fits .z), positive c .1) (record { fits = bits (c .before .args .z) (c .before .pre) })
 
--- src/arguments.rt:87:1
 returns-2 : tie.Need-returns-2
 returns-2 c = rw (toZ-ofZ (c .before .fits .z)) (positive c .1)
 

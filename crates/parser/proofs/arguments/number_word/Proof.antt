@@ -1,9 +1,10 @@
 use Prim.Native.Nat.{_≤_, _<_, _^_}
-use native.Mathlib.Omega.{arith}
 use mathlib.Core.Path.{sym, ap, _∙_}
-use denote.Ref.{now}
+use native.Mathlib.Omega.{arith}
 use lib.IntN.{ℤ}
 use lib.Signed.{mag}
+use borrow.Author.Needs.{needs}
+use denote.Ref.{now}
 use mir.Facts.{toZ-ofZ}
 use mir.Syntax.{w32}
 use mir.Val.{SFits}
@@ -14,7 +15,6 @@ use Rattle.model.specs.Numbers.{number}
 use Rattle.model.proofs.Fits.{limits, limit-low, limit-high}
 use Rattle.parser.specs.Arguments.{placedOf}
 use Rattle.parser.proofs.ArgumentLaws.{numbered, number-barred, number-read}
-use borrow.Author.Needs.{needs}
 use Rattle.parser.proofs.arguments.number_word.Statement.{statement}
 use Rattle.parser.proofs.arguments.number_word.Tie as tie
 
@@ -36,33 +36,26 @@ number-size c =
 number-fits : (c : tie.After-r) → SFits w32 (c .r .given .0 .0)
 number-fits c = record { sfits = omega (arith, number-size c) }
 
--- src/arguments.rt:103:9
 returns : tie.Need-returns
 returns c =
     let a = c .before .before .args in
     sym (ap placedOf (number-barred (a .p) (a .form) (c .if1 .taken) (number (now (a .w)))))
 
--- src/arguments.rt:105:9
 read-number-requires : tie.Need-read-number-requires
 read-number-requires c κs = limit-bounds (c .before .before)
 
--- src/arguments.rt:107:32
 enum-told : tie.Need-enum-told
 enum-told c = search needs
 
--- src/arguments.rt:108:29
 enum-told-2 : tie.Need-enum-told-2
 enum-told-2 c = search needs
 
--- src/arguments.rt:109:25
 enum-known-r : tie.Need-enum-known-r
 enum-known-r c = search needs
 
--- src/arguments.rt:109:44
 literal-word-requires : tie.Need-literal-word-requires
 literal-word-requires c κs = rw (toZ-ofZ (number-fits (c .before))) (number-size (c .before))
 
--- src/arguments.rt:98:1
 returns-2 : tie.Need-returns-2
 returns-2 c =
     let at = c .before .before in
@@ -70,7 +63,6 @@ returns-2 c =
     ap numbered (sym (c .enum-told .given .1))
     ∙ number-read (s .args .p) (s .args .form) (at .before .if1 .left) (s .pre .1) (number (now (s .args .w))) (at .read-number .ensures .0)
 
--- src/arguments.rt:98:1
 returns-3 : tie.Need-returns-3
 returns-3 c =
     let at = c .before .before in
@@ -78,7 +70,6 @@ returns-3 c =
     ap numbered (sym (c .enum-told2 .given .1))
     ∙ number-read (s .args .p) (s .args .form) (at .before .if1 .left) (s .pre .1) (number (now (s .args .w))) (at .read-number .ensures .0)
 
--- src/arguments.rt:98:1
 returns-4 : tie.Need-returns-4
 returns-4 c =
     let r = c .before .before in

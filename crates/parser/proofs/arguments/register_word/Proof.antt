@@ -1,27 +1,24 @@
-use native.Mathlib.Omega.{arith}
 use mathlib.Core.Path.{sym, ap, _∙_}
-use denote.Ref.{now}
+use native.Mathlib.Omega.{arith}
 use lib.ListN.{drop}
+use borrow.Author.Needs.{needs}
+use denote.Ref.{now}
 use Rattle.model.specs.Numbers.{natural}
 use Rattle.model.proofs.Fits.{limits}
 use Rattle.parser.specs.Arguments.{indexedOf, placedOf}
 use Rattle.parser.proofs.ArgumentLaws.{register-barred, register-placed}
-use borrow.Author.Needs.{needs}
 use Rattle.parser.proofs.arguments.register_word.Statement.{statement}
 use Rattle.parser.proofs.arguments.register_word.Tie as tie
 
--- src/arguments.rt:64:32
 read-digits-requires : tie.Need-read-digits-requires
 read-digits-requires c κs = search needs
 
--- src/arguments.rt:64:9
 indexed-requires : tie.Need-indexed-requires
 indexed-requires c κs =
     let a = c .before .before .before in
     let l = limits (a .args .p) (a .pre) in
     (omega arith, omega (arith, l .n-high))
 
--- src/arguments.rt:64:9
 returns : tie.Need-returns
 returns c =
     let a = c .before .before .before .before in
@@ -31,7 +28,6 @@ returns c =
     ∙ ap (indexedOf 1 (p .n)) (c .before .read-digits .ensures)
     ∙ register-placed p (a .args .form) (c .before .before .if1 .taken) (omega (arith, l .n-high)) (natural (drop 1 (now (a .args .w))))
 
--- src/arguments.rt:59:1
 returns-2 : tie.Need-returns-2
 returns-2 c =
     let a = c .before .before .args in

@@ -1,34 +1,28 @@
 use mathlib.Core.Path.{sym, _∙_}
+use borrow.Author.Needs.{needs}
 use denote.Ref.{now}
 use Rattle.parser.proofs.ArgumentLaws.{special-choice}
-use borrow.Author.Needs.{needs}
 use Rattle.parser.proofs.arguments.special.Statement.{statement}
 use Rattle.parser.proofs.arguments.special.Tie as tie
 
--- src/arguments.rt:29:21
 slice-aggregate-same-word : tie.Need-slice-aggregate-same-word
 slice-aggregate-same-word c = search needs
 
--- src/arguments.rt:29:8
 same-word-requires : tie.Need-same-word-requires
 same-word-requires c κs = search needs
 
--- src/arguments.rt:30:9
 returns : tie.Need-returns
 returns c =
     let w = now (c .before .before .before .before .args .w) in
     let f1 = sym (c .before .same-word .ensures) ∙ c .if1 .taken in
     sym (special-choice w ∙ simp (f1))
 
--- src/arguments.rt:32:21
 slice-aggregate-same-word-2 : tie.Need-slice-aggregate-same-word-2
 slice-aggregate-same-word-2 c = search needs
 
--- src/arguments.rt:32:8
 same-word-requires-2 : tie.Need-same-word-requires-2
 same-word-requires-2 c κs = search needs
 
--- src/arguments.rt:33:9
 returns-2 : tie.Need-returns-2
 returns-2 c =
     let w = now (c .before .before .before .before .before .before .before .args .w) in
@@ -36,15 +30,12 @@ returns-2 c =
     let f2 = sym (c .before .same-word2 .ensures) ∙ c .if2 .taken in
     sym (special-choice w ∙ simp (f1, f2))
 
--- src/arguments.rt:35:21
 slice-aggregate-same-word-3 : tie.Need-slice-aggregate-same-word-3
 slice-aggregate-same-word-3 c = search needs
 
--- src/arguments.rt:35:8
 same-word-requires-3 : tie.Need-same-word-requires-3
 same-word-requires-3 c κs = search needs
 
--- src/arguments.rt:36:9
 returns-3 : tie.Need-returns-3
 returns-3 c =
     let w = now (c .before .before .before .before .before .before .before .before .before .before .args .w) in
@@ -53,7 +44,6 @@ returns-3 c =
     let f3 = sym (c .before .same-word3 .ensures) ∙ c .if3 .taken in
     sym (special-choice w ∙ simp (f1, f2, f3))
 
--- src/arguments.rt:26:1
 returns-4 : tie.Need-returns-4
 returns-4 c =
     let w = now (c .before .before .before .before .before .before .before .before .before .before .args .w) in

@@ -1,8 +1,8 @@
 use Prim.Native.Nat.{ℕ, suc, _+_, _-_, _≤_, _<_}
 use mathlib.Core.Path.{_≡_, refl, sym, ap, _∙_}
 use native.Mathlib.Omega.{arith}
-use borrow.Author.Needs.{needs}
 use lib.ListN.{length, drop}
+use borrow.Author.Needs.{needs}
 use Rattle.parser.specs.Keys.{keyTable, placeFrom}
 use Rattle.parser.proofs.NameLaws.{table-length, place-here, place-later, place-end}
 use Rattle.parser.proofs.names.find_key.Statement.{statement}
@@ -14,42 +14,33 @@ Inv-loop keys key i₀ i = (i ≤ 50) × (keys ≡ keyTable) × (placeFrom 5 key
 abbrev μ-loop : tie.MeasureT-loop
 μ-loop keys key i₀ i = length keys - i
 
--- src/names.rt:107:5
 loop-holds : tie.Need-loop-holds Inv-loop μ-loop
 loop-holds c = (search needs, c .pre, refl)
 
--- src/names.rt:108:12
 mul-if1 : tie.Need-mul-if1 Inv-loop μ-loop
 mul-if1 c = search needs
 
--- src/names.rt:108:12
 shared-slice-read-if1 : tie.Need-shared-slice-read-if1 Inv-loop μ-loop
 shared-slice-read-if1 c = search needs
 
--- src/names.rt:109:20
 cast-result : tie.Need-cast-result Inv-loop μ-loop
 cast-result c = search needs
 
--- src/names.rt:109:20
 add-result : tie.Need-add-result Inv-loop μ-loop
 add-result c = search needs
 
--- src/names.rt:109:13
 returns : tie.Need-returns Inv-loop μ-loop
 returns c =
     let at = c .before .before .before in
     let inv = at .loop .inv in
     sym (inv .2 ∙ place-here _ _ keyTable (at .loop .i) (rw (sym (inv .1)) (search needs)) (rw (sym (inv .1)) (c .if1 .taken)))
 
--- src/names.rt:111:9
 add-i : tie.Need-add-i Inv-loop μ-loop
 add-i c = search needs
 
--- src/names.rt:107:5
 loop-less : tie.Need-loop-less Inv-loop μ-loop
 loop-less c = search needs
 
--- src/names.rt:107:5
 loop-again : tie.Need-loop-again Inv-loop μ-loop
 loop-again c =
     let at = c .before .before .before in
@@ -63,7 +54,6 @@ loop-again c =
       inv .2 ∙ place-later (i + 5) key keyTable i l (rw (sym (inv .1)) (c .if1 .left)) ∙ ap (λ (m : ℕ). placeFrom m key (drop (i + 1) keyTable)) n,
     )
 
--- src/names.rt:102:1
 returns-2 : tie.Need-returns-2 Inv-loop μ-loop
 returns-2 c =
     let inv = c .before .loop .inv in

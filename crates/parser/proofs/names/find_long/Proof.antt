@@ -1,34 +1,28 @@
 use mathlib.Core.Path.{sym, _∙_}
+use borrow.Author.Needs.{needs}
 use denote.Ref.{now}
 use Rattle.parser.proofs.NameLaws.{long-word}
-use borrow.Author.Needs.{needs}
 use Rattle.parser.proofs.names.find_long.Statement.{statement}
 use Rattle.parser.proofs.names.find_long.Tie as tie
 
--- src/names.rt:121:21
 slice-aggregate-same-word : tie.Need-slice-aggregate-same-word
 slice-aggregate-same-word c = search needs
 
--- src/names.rt:121:8
 same-word-requires : tie.Need-same-word-requires
 same-word-requires c κs = search needs
 
--- src/names.rt:122:9
 returns : tie.Need-returns
 returns c =
     let start = c .before .before .before .before in
     let f1 = sym (c .before .same-word .ensures) ∙ c .if1 .taken in
     sym (long-word (now (start .args .w)) (start .pre) ∙ simp (f1))
 
--- src/names.rt:124:21
 slice-aggregate-same-word-2 : tie.Need-slice-aggregate-same-word-2
 slice-aggregate-same-word-2 c = search needs
 
--- src/names.rt:124:8
 same-word-requires-2 : tie.Need-same-word-requires-2
 same-word-requires-2 c κs = search needs
 
--- src/names.rt:125:9
 returns-2 : tie.Need-returns-2
 returns-2 c =
     let start = c .before .before .before .before .before .before .before in
@@ -36,15 +30,12 @@ returns-2 c =
     let f2 = sym (c .before .same-word2 .ensures) ∙ c .if2 .taken in
     sym (long-word (now (start .args .w)) (start .pre) ∙ simp (f1, f2))
 
--- src/names.rt:127:21
 slice-aggregate-same-word-3 : tie.Need-slice-aggregate-same-word-3
 slice-aggregate-same-word-3 c = search needs
 
--- src/names.rt:127:8
 same-word-requires-3 : tie.Need-same-word-requires-3
 same-word-requires-3 c κs = search needs
 
--- src/names.rt:128:9
 returns-3 : tie.Need-returns-3
 returns-3 c =
     let start = c .before .before .before .before .before .before .before .before .before .before in
@@ -53,15 +44,12 @@ returns-3 c =
     let f3 = sym (c .before .same-word3 .ensures) ∙ c .if3 .taken in
     sym (long-word (now (start .args .w)) (start .pre) ∙ simp (f1, f2, f3))
 
--- src/names.rt:130:21
 slice-aggregate-same-word-4 : tie.Need-slice-aggregate-same-word-4
 slice-aggregate-same-word-4 c = search needs
 
--- src/names.rt:130:8
 same-word-requires-4 : tie.Need-same-word-requires-4
 same-word-requires-4 c κs = search needs
 
--- src/names.rt:131:9
 returns-4 : tie.Need-returns-4
 returns-4 c =
     let start = c .before .before .before .before .before .before .before .before .before .before .before .before .before in
@@ -71,7 +59,6 @@ returns-4 c =
     let f4 = sym (c .before .same-word4 .ensures) ∙ c .if4 .taken in
     sym (long-word (now (start .args .w)) (start .pre) ∙ simp (f1, f2, f3, f4))
 
--- src/names.rt:117:1
 returns-5 : tie.Need-returns-5
 returns-5 c =
     let start = c .before .before .before .before .before .before .before .before .before .before .before .before .before in

@@ -1,30 +1,25 @@
 use Prim.Native.Nat.{ℕ}
-use native.Mathlib.Omega.{arith}
 use mathlib.Core.Path.{sym, ap, _∙_}
+use native.Mathlib.Omega.{arith}
+use borrow.Author.Needs.{needs}
 use denote.Ref.{now}
 use Rattle.parser.specs.Keys.{keyTable, placeFrom}
 use Rattle.parser.proofs.NameLaws.{short-word}
-use borrow.Author.Needs.{needs}
 use Rattle.parser.proofs.names.find_name.Statement.{statement}
 use Rattle.parser.proofs.names.find_name.Tie as tie
 
--- src/names.rt:142:9
 find-long-requires : tie.Need-find-long-requires
 find-long-requires c κs = search needs
 
--- src/names.rt:142:9
 returns : tie.Need-returns
 returns c = search needs
 
--- src/names.rt:144:20
 word-key-requires : tie.Need-word-key-requires
 word-key-requires c κs = search needs
 
--- src/names.rt:144:5
 find-key-requires : tie.Need-find-key-requires
 find-key-requires c κs = search needs
 
--- src/names.rt:137:1
 returns-2 : tie.Need-returns-2
 returns-2 c =
     let at = c .before .before .before in

@@ -4,7 +4,6 @@ use Rattle.parser.specs.Keys.{keyFrom, keyTable}
 use Rattle.parser.proofs.names.key_table.Statement.{statement}
 use Rattle.parser.proofs.names.key_table.Tie as tie
 
--- src/names.rt:64:1
 returns : tie.Need-returns
 unfolding keyTable keyFrom names
 returns c = refl

@@ -1,9 +1,9 @@
 use Prim.Native.Nat.{_-_, _≤_, _<_}
 use mathlib.Core.Path.{_≡_, refl, sym, _∙_}
 use native.Mathlib.Omega.{arith}
+use lib.ListN.{length, drop}
 use borrow.Author.Needs.{needs}
 use denote.Ref.{now}
-use lib.ListN.{length, drop}
 use Rattle.model.specs.Load.{sameWord}
 use Rattle.parser.proofs.NameLaws.{other-length, same-end, same-byte, other-byte}
 use Rattle.parser.proofs.names.same_word.Statement.{statement}
@@ -15,27 +15,21 @@ Inv-loop w name i₀ i = (i ≤ length w) × (length w ≡ length name) × (same
 abbrev μ-loop : tie.MeasureT-loop
 μ-loop w name i₀ i = length w - i
 
--- src/names.rt:75:9
 returns : tie.Need-returns Inv-loop μ-loop
 returns c = sym (other-length _ _ (c .if1 .taken))
 
--- src/names.rt:78:5
 loop-holds : tie.Need-loop-holds Inv-loop μ-loop
 loop-holds c = (search needs, c .if1 .left, refl)
 
--- src/names.rt:79:18
 shared-slice-read-upper : tie.Need-shared-slice-read-upper Inv-loop μ-loop
 shared-slice-read-upper c = search needs
 
--- src/names.rt:79:12
 upper-requires : tie.Need-upper-requires Inv-loop μ-loop
 upper-requires c κs = search needs
 
--- src/names.rt:79:27
 shared-slice-read-if2 : tie.Need-shared-slice-read-if2 Inv-loop μ-loop
 shared-slice-read-if2 c = let e = c .before .before .before .before .loop .inv .1 in omega arith
 
--- src/names.rt:80:13
 returns-2 : tie.Need-returns-2 Inv-loop μ-loop
 returns-2 c =
     let at = c .before .before .before .before .before in
@@ -47,15 +41,12 @@ returns-2 c =
     let e = at .loop .inv .1 in
     sym (at .loop .inv .2 ∙ other-byte w n i l (omega arith) (λ e. c .if2 .taken (c .before .before .upper .ensures ∙ e)))
 
--- src/names.rt:82:9
 add-i : tie.Need-add-i Inv-loop μ-loop
 add-i c = search needs
 
--- src/names.rt:78:5
 loop-less : tie.Need-loop-less Inv-loop μ-loop
 loop-less c = search needs
 
--- src/names.rt:78:5
 loop-again : tie.Need-loop-again Inv-loop μ-loop
 loop-again c =
     let at = c .before .before .before .before .before in
@@ -67,7 +58,6 @@ loop-again c =
     let e = at .loop .inv .1 in
     (search needs, e, at .loop .inv .2 ∙ same-byte w n i l (omega arith) (sym (c .before .before .upper .ensures) ∙ c .if2 .left))
 
--- src/names.rt:71:1
 returns-3 : tie.Need-returns-3 Inv-loop μ-loop
 returns-3 c =
     let at = c .before in

@@ -1,10 +1,10 @@
 use Prim.Native.Nat.{ℕ, _+_, _*_, _-_, _^_, _≤_, _<_}
 use mathlib.Core.Path.{_≡_, refl, sym, ap, _∙_}
 use native.Mathlib.Omega.{arith}
-use borrow.Author.Needs.{needs}
-use denote.Ref.{now}
 use lib.Dec.{lit<}
 use lib.ListN.{length, drop}
+use borrow.Author.Needs.{needs}
+use denote.Ref.{now}
 use Rattle.parser.specs.Keys.{keyFrom, keyOf}
 use Rattle.parser.proofs.NameLaws.{key-end, key-byte, key-bits, key-fits}
 use Rattle.parser.proofs.names.word_key.Statement.{statement}
@@ -16,30 +16,24 @@ Inv-loop w key₀ i₀ key i = (i ≤ length w) × (length w ≤ 7) × (key < 2 
 abbrev μ-loop : tie.MeasureT-loop
 μ-loop w key₀ i₀ key i = length w - i
 
--- src/names.rt:94:5
 loop-holds : tie.Need-loop-holds Inv-loop μ-loop
 loop-holds c = (search needs, c .before .pre, lit< tt, refl)
 
--- src/names.rt:95:15
 mul-key : tie.Need-mul-key Inv-loop μ-loop
 mul-key c =
     let inv = c .before .loop .inv in
     let f = key-fits (c .before .loop .key) 0 (c .before .loop .i) (inv .2) (omega arith) (omega arith) in
     omega arith
 
--- src/names.rt:95:33
 shared-slice-read-upper : tie.Need-shared-slice-read-upper Inv-loop μ-loop
 shared-slice-read-upper c = search needs
 
--- src/names.rt:95:27
 upper-requires : tie.Need-upper-requires Inv-loop μ-loop
 upper-requires c κs = search needs
 
--- src/names.rt:95:27
 cast-key : tie.Need-cast-key Inv-loop μ-loop
 cast-key c = search needs
 
--- src/names.rt:95:15
 add-key : tie.Need-add-key Inv-loop μ-loop
 add-key c =
     let at = c .before .before .before in
@@ -47,15 +41,12 @@ add-key c =
     let f = key-fits (at .loop .key) (c .upper .result) (at .loop .i) (inv .2) (omega arith) (c .upper .ok) in
     omega arith
 
--- src/names.rt:96:9
 add-i : tie.Need-add-i Inv-loop μ-loop
 add-i c = search needs
 
--- src/names.rt:94:5
 loop-less : tie.Need-loop-less Inv-loop μ-loop
 loop-less c = search needs
 
--- src/names.rt:94:5
 loop-again : tie.Need-loop-again Inv-loop μ-loop
 loop-again c =
     let at = c .before .before .before in
@@ -69,7 +60,6 @@ loop-again c =
       inv .3 ∙ key-byte k w i (omega arith) ∙ ap (λ (u : ℕ). keyFrom (k * 256 + u) (drop (i + 1) w)) (sym (c .upper .ensures)),
     )
 
--- src/names.rt:88:1
 returns : tie.Need-returns Inv-loop μ-loop
 returns c = let inv = c .before .loop .inv in sym (inv .3 ∙ key-end _ _ _ (c .loop-test .left))
 
