@@ -1,0 +1,283 @@
+-- An argument's text is read back as that argument, and an argument that is accepted has a word that fits. Assumes nothing.
+use Prim.Native.Nat.{ℕ, zero, suc, _+_, _*_, _-_, _/_, _%_, _^_, _≤_, _<_}
+use mathlib.Core.Path.{_≡_, refl, sym, ap, _∙_}
+use mathlib.Core.Bool.{Bool, true, false, _&&_, cond}
+use mathlib.Core.List.{List, [], _∷_}
+use mathlib.Core.Option.{Option, none, some}
+use native.Mathlib.Omega.{arith}
+use lib.Dec.{eqb, leb, ltb}
+use lib.IntN.{ℤ, pos, negsuc}
+use lib.Signed.{mag}
+use borrow.Author.Tests.{eqb-true, eqb-false, ne-eqb, eq-eqb, ltb-true, ltb-false, lt-ltb, le-ltb, lt-leb, le-leb}
+use Rattle.model.specs.declared.Parameters.{Parameters}
+use Rattle.model.specs.Parameters.{between, limit, inRange}
+use Rattle.model.specs.Words.{Argument, register, special, direct, literal, argumentWord, wordOf, kindOf, contentOf, numberBits, numberOf}
+use Rattle.model.specs.Numbers.{bytes, upper, natural, mapped, number, decimal}
+use Rattle.model.specs.Load.{sameWord, specialOf, afterD, plain, argument, allows, isWithin, Checked, fine, fault, placed}
+use Rattle.model.specs.Images.{wordFits}
+use Rattle.model.proofs.Fits.{both, and-both, is-between, Limits, limit-low, limit-high}
+use Rattle.model.proofs.Decimals.{Leading, Plain, is-zero, is-positive, is-negative, decimal-plain, natural-digits, number-decimal}
+use Rattle.model.proofs.Ranges.{range-mag}
+use Rattle.listing.specs.Listing.{registerOf, argumentOf, specialText, argumentText}
+use Rattle.listing.proofs.Bytes.{isWord, word-plain, decimal-word}
+
+-- A special register is one of three.
+abbrev Named : Argument → Type 0
+Named (register r) = Unit {0}
+Named (special r) = between 256 258 r ≡ true
+Named (direct d) = Unit {0}
+Named (literal z) = Unit {0}
+
+-- THE TEXT IS READ BACK
+-- A word that begins with a sign or a digit is a number or nothing.
+module _ (b : ℕ) (s : List ℕ) (h : b ≤ 57) where
+  same-capital : upper b ≡ b
+  same-capital = simp (lt-leb 97 b (omega arith))
+
+  other-word : (c : ℕ) (t : List ℕ) → ¬ (b ≡ c) → sameWord (b ∷ s) (c ∷ t) ≡ false
+  unfolding sameWord
+  other-word c t d = simp (sameWord, same-capital, ne-eqb b c d)
+
+  no-special : specialOf (b ∷ s) ≡ 0
+  unfolding specialOf
+  no-special =
+      let iar = other-word 73 (65 ∷ 82 ∷ []) (λ e. omega arith) in
+      let ircr = other-word 73 (82 ∷ 67 ∷ 82 ∷ []) (λ e. omega arith) in
+      let shr = other-word 83 (72 ∷ 82 ∷ []) (λ e. omega arith) in
+      simp (specialOf, iar, ircr, shr)
+
+  number-argument : argument (b ∷ s) ≡ mapped literal (number (b ∷ s))
+  unfolding argument plain
+  number-argument = simp (argument, no-special, plain, same-capital, ne-eqb b 82 (λ e. omega arith), ne-eqb b 68 (λ e. omega arith))
+
+leading-argument : (s : List ℕ) → Leading s → argument s ≡ mapped literal (number s)
+leading-argument [] l = absurd l
+leading-argument (b ∷ s) l = number-argument b s (l .1)
+
+plain-argument : {s : List ℕ} → Plain s → argument s ≡ mapped literal (number s)
+plain-argument is-zero = number-argument 48 [] (omega arith)
+plain-argument (is-positive {s} l) = leading-argument s l
+plain-argument (is-negative {s} l) = number-argument 45 s (omega arith)
+
+-- One of three.
+special-back : (r : ℕ) → between 256 258 r ≡ true → argument (specialText r) ≡ some (special r)
+unfolding argument specialOf sameWord
+special-back r h = go (eqb r 256) (eqb r 257) refl refl
+  where
+    go : (a b : Bool) → eqb r 256 ≡ a → eqb r 257 ≡ b →
+        argument (cond a (bytes "IAR") (cond b (bytes "IRCR") (bytes "SHR"))) ≡ some (special r)
+    go true b e f = ap (λ (n : ℕ). some (special n)) (sym (eqb-true r 256 e))
+    go false true e f = ap (λ (n : ℕ). some (special n)) (sym (eqb-true r 257 f))
+    go false false e f =
+        let k = is-between 256 258 r h in
+        let n : ¬ (r ≡ 256) = eqb-false r 256 e in
+        let m : ¬ (r ≡ 257) = eqb-false r 257 f in
+        let q : 258 ≡ r = omega arith in
+        ap (λ (n : ℕ). some (special n)) q
+
+argument-back : (a : Argument) → Named a → argument (argumentText a) ≡ some a
+unfolding argument plain specialOf sameWord
+argument-back (register r) n = ap (mapped register) (natural-digits r)
+argument-back (special r) n = special-back r n
+argument-back (direct d) n = ap (mapped direct) (natural-digits d)
+argument-back (literal z) n = plain-argument (decimal-plain z) ∙ ap (mapped literal) (number-decimal z)
+
+pub text-word : (a : Argument) → isWord (argumentText a) ≡ true
+text-word (register r) = word-plain (decimal (pos r)) (decimal-word (pos r))
+text-word (special r) = special-word (eqb r 256) (eqb r 257)
+  where
+    special-word : (a b : Bool) → isWord (cond a (bytes "IAR") (cond b (bytes "IRCR") (bytes "SHR"))) ≡ true
+    special-word true b = refl
+    special-word false true = refl
+    special-word false false = refl
+text-word (direct d) = word-plain (decimal (pos d)) (decimal-word (pos d))
+text-word (literal z) = decimal-word z
+
+-- FROM A WORD THAT FITS
+bits-back : (v : ℕ) → v < 2 ^ 30 → numberBits (numberOf v) ≡ v
+bits-back v h = go (ltb v (2 ^ 29)) refl
+  where
+    go : (b : Bool) → ltb v (2 ^ 29) ≡ b → numberBits (cond b (pos v) (negsuc (2 ^ 30 - suc v))) ≡ v
+    go true e = refl
+    go false e = omega arith
+
+-- The argument of a word is one that its place accepts, and has that word.
+record Suits (p : Parameters) (form w : ℕ) (a : Argument) : Type 0 where
+  named : Named a
+  allowed : allows form a ≡ true
+  within : isWithin p a ≡ true
+  word : argumentWord a ≡ w
+
+module _ (p : Parameters) (form w : ℕ) where
+  register-suits : kindOf w ≡ 1 → (b : Bool) → between 256 258 (contentOf w) ≡ b →
+      cond b (allows form (special (contentOf w))) (allows form (register (contentOf w)) && isWithin p (register (contentOf w))) ≡ true →
+      Suits p form w (cond b (special (contentOf w)) (register (contentOf w)))
+  unfolding isWithin
+  register-suits k true e h = record { named = e; allowed = h; within = refl; word = omega arith }
+  register-suits k false e h =
+      let a = register (contentOf w) in
+      let g = both (allows form a) (isWithin p a) h in
+      record { named = tt; allowed = g .0; within = g .1; word = omega arith }
+
+  direct-suits : kindOf w ≡ 2 → (allows form (direct (contentOf w)) && isWithin p (direct (contentOf w))) ≡ true → Suits p form w (direct (contentOf w))
+  direct-suits k h =
+      let a = direct (contentOf w) in
+      let g = both (allows form a) (isWithin p a) h in
+      record { named = tt; allowed = g .0; within = g .1; word = omega arith }
+
+  literal-suits : kindOf w ≡ 3 → (allows form (literal (numberOf (contentOf w))) && isWithin p (literal (numberOf (contentOf w)))) ≡ true →
+      Suits p form w (literal (numberOf (contentOf w)))
+  literal-suits k h =
+      let a = literal (numberOf (contentOf w)) in
+      let g = both (allows form a) (isWithin p a) h in
+      record { named = tt; allowed = g .0; within = g .1; word = ap (wordOf 3) (bits-back (contentOf w) (omega arith)) ∙ omega arith }
+
+  word-suits : wordFits p form w ≡ true → Suits p form w (argumentOf w)
+  unfolding wordFits
+  word-suits h = go (eqb (kindOf w) 1) (eqb (kindOf w) 2) refl refl h
+    where
+      go : (x y : Bool) → eqb (kindOf w) 1 ≡ x → eqb (kindOf w) 2 ≡ y →
+          cond x (cond (between 256 258 (contentOf w)) (allows form (special (contentOf w))) (allows form (register (contentOf w)) && isWithin p (register (contentOf w))))
+          (cond y (allows form (direct (contentOf w)) && isWithin p (direct (contentOf w)))
+          (eqb (kindOf w) 3 && (allows form (literal (numberOf (contentOf w))) && isWithin p (literal (numberOf (contentOf w)))))) ≡ true →
+          Suits p form w (cond x (registerOf (contentOf w)) (cond y (direct (contentOf w)) (literal (numberOf (contentOf w)))))
+      go true y e f h = register-suits (eqb-true (kindOf w) 1 e) (between 256 258 (contentOf w)) refl h
+      go false true e f h = direct-suits (eqb-true (kindOf w) 2 f) h
+      go false false e f h = let g = both (eqb (kindOf w) 3) _ h in literal-suits (eqb-true (kindOf w) 3 (g .0)) (g .1)
+
+  suits-placed : (a : Argument) → Suits p form w a → placed p form (argument (argumentText a)) ≡ fine w
+  suits-placed a s = ap (placed p form) (argument-back a (s .named)) ∙ rw (s .allowed, s .within) (ap fine (s .word))
+
+  -- The text of a word that fits is read back as that word.
+  pub word-back : wordFits p form w ≡ true → placed p form (argument (argumentText (argumentOf w))) ≡ fine w
+  word-back h = suits-placed (argumentOf w) (word-suits h)
+
+-- TO A WORD THAT FITS
+-- Whatever text is read, a special register is one of three.
+abbrev NamedIn : Option Argument → Type 0
+NamedIn none = Unit {0}
+NamedIn (some a) = Named a
+
+mapped-named : (f : ℕ → Argument) → ((n : ℕ) → Named (f n)) → (o : Option ℕ) → NamedIn (mapped f o)
+mapped-named f h none = tt
+mapped-named f h (some n) = h n
+
+literal-named : (o : Option ℤ) → NamedIn (mapped literal o)
+literal-named none = tt
+literal-named (some z) = tt
+
+after-named : (s : List ℕ) → NamedIn (afterD s)
+after-named [] = tt
+after-named (b ∷ s) = go (eqb (upper b) 77)
+  where
+    go : (x : Bool) → NamedIn (elim x [ true ↦ mapped direct (natural s) | false ↦ none ])
+    go true = mapped-named direct (λ n. tt) (natural s)
+    go false = tt
+
+plain-named : (w : List ℕ) → NamedIn (plain w)
+unfolding plain
+plain-named [] = tt
+plain-named (b ∷ s) = go (eqb (upper b) 82) (eqb (upper b) 68)
+  where
+    go : (x y : Bool) →
+        NamedIn (elim x [ true ↦ mapped register (natural s) | false ↦ elim y [ true ↦ afterD s | false ↦ mapped literal (number (b ∷ s)) ] ])
+    go true y = mapped-named register (λ n. tt) (natural s)
+    go false true = after-named s
+    go false false = literal-named (number (b ∷ s))
+
+special-number : (w : List ℕ) → eqb (specialOf w) 0 ≡ false → between 256 258 (specialOf w) ≡ true
+unfolding specialOf
+special-number w = go (sameWord w (bytes "IAR")) (sameWord w (bytes "IRCR")) (sameWord w (bytes "SHR"))
+  where
+    number : (x y z : Bool) → ℕ
+    number x y z = elim x [ true ↦ 256 | false ↦ elim y [ true ↦ 257 | false ↦ elim z [ true ↦ 258 | false ↦ 0 ] ] ]
+
+    go : (x y z : Bool) → eqb (number x y z) 0 ≡ false → between 256 258 (number x y z) ≡ true
+    go true y z h = refl
+    go false true z h = refl
+    go false false true h = refl
+    go false false false h = cc
+
+argument-named : (w : List ℕ) → NamedIn (argument w)
+unfolding argument
+argument-named w = go (eqb (specialOf w) 0) refl
+  where
+    go : (x : Bool) → eqb (specialOf w) 0 ≡ x → NamedIn (elim x [ true ↦ plain w | false ↦ some (special (specialOf w)) ])
+    go true e = plain-named w
+    go false e = special-number w e
+
+bits-number : (z : ℤ) → mag z < 2 ^ 29 → numberOf (numberBits z) ≡ z
+bits-number (pos n) h = rw (lt-ltb n (2 ^ 29) h)
+bits-number (negsuc n) h =
+    let l : 2 ^ 29 ≤ 2 ^ 30 - suc n = omega arith in
+    rw (le-ltb (2 ^ 30 - suc n) (2 ^ 29) l) (ap negsuc (omega arith))
+
+-- A word of kind 1, 2 or 3.
+module _ (p : Parameters) (form w : ℕ) where
+  register-fits : (r : ℕ) → kindOf w ≡ 1 → contentOf w ≡ r → between 256 258 r ≡ false → allows form (register r) ≡ true → isWithin p (register r) ≡ true →
+      wordFits p form w ≡ true
+  unfolding wordFits
+  register-fits r k e b h g = simp (wordFits, k, e, b, h, g)
+
+  special-fits : (r : ℕ) → kindOf w ≡ 1 → contentOf w ≡ r → between 256 258 r ≡ true → allows form (special r) ≡ true → wordFits p form w ≡ true
+  unfolding wordFits
+  special-fits r k e b h = simp (wordFits, k, e, b, h)
+
+  direct-fits : (d : ℕ) → kindOf w ≡ 2 → contentOf w ≡ d → allows form (direct d) ≡ true → isWithin p (direct d) ≡ true → wordFits p form w ≡ true
+  unfolding wordFits
+  direct-fits d k e h g = simp (wordFits, k, e, h, g)
+
+  literal-fits : (z : ℤ) → kindOf w ≡ 3 → numberOf (contentOf w) ≡ z → allows form (literal z) ≡ true → isWithin p (literal z) ≡ true →
+      wordFits p form w ≡ true
+  unfolding wordFits
+  literal-fits z k e h g = simp (wordFits, k, e, h, g)
+
+word-kind : (k c : ℕ) → c < 2 ^ 30 → kindOf (wordOf k c) ≡ k
+word-kind k c h = omega arith
+
+word-content : (k c : ℕ) → c < 2 ^ 30 → contentOf (wordOf k c) ≡ c
+word-content k c h = omega arith
+
+bits-small : (z : ℤ) → mag z < 2 ^ 29 → numberBits z < 2 ^ 30
+bits-small (pos n) h = omega arith
+bits-small (negsuc n) h = omega arith
+
+-- "14 (register ≥ N, cell ≥ B, or number outside the range)" keeps each content within 30 bits, and a register below 256.
+module _ (p : Parameters) (limits : Limits p) (form : ℕ) where
+  argument-fits : (a : Argument) → Named a → allows form a ≡ true → isWithin p a ≡ true → wordFits p form (argumentWord a) ≡ true
+  unfolding isWithin
+  argument-fits (register r) n h g =
+      let l = ltb-true r (p .n) g in
+      let small : r < 2 ^ 30 = omega arith in
+      let low : r < 256 = omega arith in
+      register-fits p form (wordOf 1 r) r (word-kind 1 r small) (word-content 1 r small) (simp (lt-leb 256 r low)) h g
+  argument-fits (special r) n h g =
+      let b = is-between 256 258 r n in
+      let small : r < 2 ^ 30 = omega arith in
+      special-fits p form (wordOf 1 r) r (word-kind 1 r small) (word-content 1 r small) n h
+  argument-fits (direct d) n h g =
+      let l = ltb-true d (p .b) g in
+      let small : d < 2 ^ 30 = omega arith in
+      direct-fits p form (wordOf 2 d) d (word-kind 2 d small) (word-content 2 d small) h g
+  argument-fits (literal z) n h g =
+      let low = limit-low (limits .k-low) in
+      let high = limit-high (limits .k-high) in
+      let m = range-mag (limit (p .k)) z (omega arith) g in
+      let l : mag z < 2 ^ 29 = omega arith in
+      let small = bits-small z l in
+      literal-fits p form (wordOf 3 (numberBits z)) z (word-kind 3 (numberBits z) small)
+      (ap numberOf (word-content 3 (numberBits z) small) ∙ bits-number z l) h g
+
+  -- What is accepted at a place fits there.
+  pub placed-fits : (w : List ℕ) (x : ℕ) → placed p form (argument w) ≡ fine x → wordFits p form x ≡ true
+  placed-fits w x = go (argument w) (argument-named w)
+    where
+      go : (o : Option Argument) → NamedIn o → placed p form o ≡ fine x → wordFits p form x ≡ true
+      go none n e = cc
+      go (some a) n e = at (allows form a) (isWithin p a) refl refl e
+        where
+          at : (y z : Bool) → allows form a ≡ y → isWithin p a ≡ z → cond y (cond z (fine (argumentWord a)) (fault 14)) (fault 13) ≡ fine x →
+              wordFits p form x ≡ true
+          at false z h g e = cc
+          at true false h g e = cc
+          at true true h g e = let q : argumentWord a ≡ x = cc in rw q at (argument-fits a n h g)
