@@ -32,13 +32,11 @@ argumentText (special r) = specialText r
 argumentText (direct d) = bytes "DM" ++ decimal (pos d)
 argumentText (literal z) = decimal z
 
--- The name "in capitals", then as many of the words ws as the instruction has arguments.
-abbrev pub wordsWith : (head : ℕ) (ws : List ℕ) → List (List ℕ)
-wordsWith h ws = rowOf h .name ∷ map (λ w. argumentText (argumentOf w)) (take (length (rowOf h .forms)) ws)
-
--- The words of an instruction.
+-- The words of an instruction: the name "in capitals", then each argument that it has.
 abbrev pub instructionWords : Cell → List (List ℕ)
-instructionWords c = wordsWith (c .head) (c .first ∷ c .second ∷ c .third ∷ [])
+instructionWords c =
+    rowOf (c .head) .name
+    ∷ map (λ w. argumentText (argumentOf w)) (take (length (rowOf (c .head) .forms)) (c .first ∷ c .second ∷ c .third ∷ []))
 
 -- "words parted by one space"
 unfoldable pub spaced : List (List ℕ) → List ℕ

@@ -23,19 +23,19 @@ zero-getD [] i h = refl
 zero-getD (w ∷ ws) zero h = eqb-true w 0 (both (eqb w 0) (allZero ws) h .0)
 zero-getD (w ∷ ws) (suc i) h = zero-getD ws i (both (eqb w 0) (allZero ws) h .1)
 
-zero-take : (n : ℕ) (ws : List ℕ) → allZero ws ≡ true → allZero (take n ws) ≡ true
+pub zero-take : (n : ℕ) (ws : List ℕ) → allZero ws ≡ true → allZero (take n ws) ≡ true
 unfolding allZero
 zero-take zero ws h = refl
 zero-take (suc n) [] h = refl
 zero-take (suc n) (w ∷ ws) h = let k = both (eqb w 0) (allZero ws) h in and-both (k .0) (zero-take n ws (k .1))
 
-zero-drop : (n : ℕ) (ws : List ℕ) → allZero ws ≡ true → allZero (drop n ws) ≡ true
+pub zero-drop : (n : ℕ) (ws : List ℕ) → allZero ws ≡ true → allZero (drop n ws) ≡ true
 unfolding allZero
 zero-drop zero ws h = h
 zero-drop (suc n) [] h = refl
 zero-drop (suc n) (w ∷ ws) h = zero-drop n ws (both (eqb w 0) (allZero ws) h .1)
 
-zero-empty : (ws : List ℕ) → allZero ws ≡ true → isEmpty (cellOf ws) ≡ true
+pub zero-empty : (ws : List ℕ) → allZero ws ≡ true → isEmpty (cellOf ws) ≡ true
 zero-empty ws h = and-both (and-both (and-both (at 0) (at 1)) (at 2)) (at 3)
   where
     at : (i : ℕ) → eqb (getD ws i 0) 0 ≡ true
@@ -50,11 +50,11 @@ next-cell ws i = ap (λ (xs : List ℕ). cellOf (take 4 xs)) (ap (λ (n : ℕ). 
     e = omega arith
 
 -- Where the cells fit, there are zeros alone, or the first cell fits and the rest do.
-data First (p : Parameters) (t : ℕ) (ws : List ℕ) : Type 0 where
+pub data First (p : Parameters) (t : ℕ) (ws : List ℕ) : Type 0 where
   zeros : allZero ws ≡ true → First p t ws
   full : cellFits p (cellOf (take 4 ws)) ≡ true → cellsFit p t (drop 4 ws) ≡ true → First p t ws
 
-first-cell : (p : Parameters) (t : ℕ) (ws : List ℕ) → cellsFit p (suc t) ws ≡ true → First p t ws
+pub first-cell : (p : Parameters) (t : ℕ) (ws : List ℕ) → cellsFit p (suc t) ws ≡ true → First p t ws
 unfolding cellsFit
 first-cell p t ws h = go (isEmpty (cellOf (take 4 ws))) h
   where
