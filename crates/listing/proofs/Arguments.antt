@@ -1,21 +1,22 @@
 -- An argument's text is read back as that argument, and an argument that is accepted has a word that fits. Assumes nothing.
-use Prim.Native.Nat.{ℕ, zero, suc, _+_, _*_, _-_, _/_, _%_, _^_, _≤_, _<_}
-use mathlib.Core.Path.{_≡_, refl, sym, ap, _∙_}
+use Prim.Native.Nat.{ℕ, suc, _-_, _^_, _≤_, _<_}
+use mathlib.Core.Path.{_≡_, refl, ap, _∙_}
 use mathlib.Core.Bool.{Bool, true, false, _&&_, cond}
 use mathlib.Core.List.{List, [], _∷_}
 use mathlib.Core.Option.{Option, none, some}
+use native.Mathlib.Decide.{ℕ-discrete}
 use native.Mathlib.Omega.{arith}
-use lib.Dec.{eqb, leb, ltb}
+use lib.Dec.{eqb, ltb}
 use lib.IntN.{ℤ, pos, negsuc}
 use lib.Signed.{mag}
-use borrow.Author.Tests.{eqb-true, eqb-false, ne-eqb, eq-eqb, ltb-true, ltb-false, lt-ltb, le-ltb, lt-leb, le-leb}
+use borrow.Author.Tests.{eqb-true, ne-eqb, ltb-true, lt-ltb, le-ltb, lt-leb}
 use Rattle.model.specs.declared.Parameters.{Parameters}
-use Rattle.model.specs.Parameters.{between, limit, inRange}
+use Rattle.model.specs.Parameters.{between, limit}
 use Rattle.model.specs.Words.{Argument, register, special, direct, literal, argumentWord, wordOf, kindOf, contentOf, numberBits, numberOf}
 use Rattle.model.specs.Numbers.{bytes, upper, natural, mapped, number, decimal}
-use Rattle.model.specs.Load.{sameWord, specialOf, afterD, plain, argument, allows, isWithin, Checked, fine, fault, placed}
+use Rattle.model.specs.Load.{sameWord, specialOf, afterD, plain, argument, allows, isWithin, fine, fault, placed}
 use Rattle.model.specs.Images.{wordFits}
-use Rattle.model.proofs.Fits.{both, and-both, is-between, Limits, limit-low, limit-high}
+use Rattle.model.proofs.Fits.{both, and-both, by-cond, is-between, Limits, limit-low, limit-high}
 use Rattle.model.proofs.Decimals.{Leading, Plain, is-zero, is-positive, is-negative, decimal-plain, natural-digits, number-decimal}
 use Rattle.model.proofs.Ranges.{range-mag}
 use Rattle.listing.specs.Listing.{registerOf, argumentOf, specialText, argumentText}
@@ -59,21 +60,18 @@ plain-argument is-zero = number-argument 48 [] (omega arith)
 plain-argument (is-positive {s} l) = leading-argument s l
 plain-argument (is-negative {s} l) = number-argument 45 s (omega arith)
 
--- One of three.
+-- What holds of 256, 257 and 258.
+one-of-three : (P : ℕ → Type 0) → P 256 → P 257 → P 258 → (r : ℕ) → between 256 258 r ≡ true → P r
+one-of-three P a b c r h = go (ℕ-discrete r 256) (ℕ-discrete r 257)
+  where
+    go : Dec (r ≡ 256) → Dec (r ≡ 257) → P r
+    go (yes e) d = rw e a
+    go (no n) (yes e) = rw e b
+    go (no n) (no m) = let k = is-between 256 258 r h in let e : r ≡ 258 = omega arith in rw e c
+
 special-back : (r : ℕ) → between 256 258 r ≡ true → argument (specialText r) ≡ some (special r)
 unfolding argument specialOf sameWord
-special-back r h = go (eqb r 256) (eqb r 257) refl refl
-  where
-    go : (a b : Bool) → eqb r 256 ≡ a → eqb r 257 ≡ b →
-        argument (cond a (bytes "IAR") (cond b (bytes "IRCR") (bytes "SHR"))) ≡ some (special r)
-    go true b e f = ap (λ (n : ℕ). some (special n)) (sym (eqb-true r 256 e))
-    go false true e f = ap (λ (n : ℕ). some (special n)) (sym (eqb-true r 257 f))
-    go false false e f =
-        let k = is-between 256 258 r h in
-        let n : ¬ (r ≡ 256) = eqb-false r 256 e in
-        let m : ¬ (r ≡ 257) = eqb-false r 257 f in
-        let q : 258 ≡ r = omega arith in
-        ap (λ (n : ℕ). some (special n)) q
+special-back = one-of-three (λ r. argument (specialText r) ≡ some (special r)) refl refl refl
 
 argument-back : (a : Argument) → Named a → argument (argumentText a) ≡ some a
 unfolding argument plain specialOf sameWord
@@ -84,12 +82,9 @@ argument-back (literal z) n = plain-argument (decimal-plain z) ∙ ap (mapped li
 
 pub text-word : (a : Argument) → isWord (argumentText a) ≡ true
 text-word (register r) = word-plain (decimal (pos r)) (decimal-word (pos r))
-text-word (special r) = special-word (eqb r 256) (eqb r 257)
-  where
-    special-word : (a b : Bool) → isWord (cond a (bytes "IAR") (cond b (bytes "IRCR") (bytes "SHR"))) ≡ true
-    special-word true b = refl
-    special-word false true = refl
-    special-word false false = refl
+text-word (special r) =
+    let word : List ℕ → Type 0 = λ w. isWord w ≡ true in
+    by-cond word (eqb r 256) _ _ (λ e. refl) (λ e. by-cond word (eqb r 257) _ _ (λ f. refl) (λ f. refl))
 text-word (direct d) = word-plain (decimal (pos d)) (decimal-word (pos d))
 text-word (literal z) = decimal-word z
 
@@ -101,52 +96,51 @@ bits-back v h = go (ltb v (2 ^ 29)) refl
     go true e = refl
     go false e = omega arith
 
--- The argument of a word is one that its place accepts, and has that word.
+-- Neither 13 nor 14.
+abbrev isAccepted : Parameters → (form : ℕ) → Argument → Bool
+isAccepted p form a = allows form a && isWithin p a
+
+-- An argument that its place accepts, with its word.
 record Suits (p : Parameters) (form w : ℕ) (a : Argument) : Type 0 where
   named : Named a
-  allowed : allows form a ≡ true
-  within : isWithin p a ≡ true
+  accepted : isAccepted p form a ≡ true
   word : argumentWord a ≡ w
 
 module _ (p : Parameters) (form w : ℕ) where
   register-suits : kindOf w ≡ 1 → (b : Bool) → between 256 258 (contentOf w) ≡ b →
-      cond b (allows form (special (contentOf w))) (allows form (register (contentOf w)) && isWithin p (register (contentOf w))) ≡ true →
+      cond b (allows form (special (contentOf w))) (isAccepted p form (register (contentOf w))) ≡ true →
       Suits p form w (cond b (special (contentOf w)) (register (contentOf w)))
   unfolding isWithin
-  register-suits k true e h = record { named = e; allowed = h; within = refl; word = omega arith }
-  register-suits k false e h =
-      let a = register (contentOf w) in
-      let g = both (allows form a) (isWithin p a) h in
-      record { named = tt; allowed = g .0; within = g .1; word = omega arith }
+  register-suits k true e h = record { named = e; accepted = and-both h refl; word = omega arith }
+  register-suits k false e h = record { named = tt; accepted = h; word = omega arith }
 
-  direct-suits : kindOf w ≡ 2 → (allows form (direct (contentOf w)) && isWithin p (direct (contentOf w))) ≡ true → Suits p form w (direct (contentOf w))
-  direct-suits k h =
-      let a = direct (contentOf w) in
-      let g = both (allows form a) (isWithin p a) h in
-      record { named = tt; allowed = g .0; within = g .1; word = omega arith }
+  direct-suits : kindOf w ≡ 2 → isAccepted p form (direct (contentOf w)) ≡ true → Suits p form w (direct (contentOf w))
+  direct-suits k h = record { named = tt; accepted = h; word = omega arith }
 
-  literal-suits : kindOf w ≡ 3 → (allows form (literal (numberOf (contentOf w))) && isWithin p (literal (numberOf (contentOf w)))) ≡ true →
+  literal-suits : kindOf w ≡ 3 → isAccepted p form (literal (numberOf (contentOf w))) ≡ true →
       Suits p form w (literal (numberOf (contentOf w)))
   literal-suits k h =
-      let a = literal (numberOf (contentOf w)) in
-      let g = both (allows form a) (isWithin p a) h in
-      record { named = tt; allowed = g .0; within = g .1; word = ap (wordOf 3) (bits-back (contentOf w) (omega arith)) ∙ omega arith }
+      record { named = tt; accepted = h; word = ap (wordOf 3) (bits-back (contentOf w) (omega arith)) ∙ omega arith }
 
   word-suits : wordFits p form w ≡ true → Suits p form w (argumentOf w)
   unfolding wordFits
   word-suits h = go (eqb (kindOf w) 1) (eqb (kindOf w) 2) refl refl h
     where
+      registerFits : Bool
+      registerFits = cond (between 256 258 (contentOf w)) (allows form (special (contentOf w))) (isAccepted p form (register (contentOf w)))
+
       go : (x y : Bool) → eqb (kindOf w) 1 ≡ x → eqb (kindOf w) 2 ≡ y →
-          cond x (cond (between 256 258 (contentOf w)) (allows form (special (contentOf w))) (allows form (register (contentOf w)) && isWithin p (register (contentOf w))))
-          (cond y (allows form (direct (contentOf w)) && isWithin p (direct (contentOf w)))
-          (eqb (kindOf w) 3 && (allows form (literal (numberOf (contentOf w))) && isWithin p (literal (numberOf (contentOf w)))))) ≡ true →
+          cond x registerFits (cond y (isAccepted p form (direct (contentOf w)))
+          (eqb (kindOf w) 3 && isAccepted p form (literal (numberOf (contentOf w))))) ≡ true →
           Suits p form w (cond x (registerOf (contentOf w)) (cond y (direct (contentOf w)) (literal (numberOf (contentOf w)))))
       go true y e f h = register-suits (eqb-true (kindOf w) 1 e) (between 256 258 (contentOf w)) refl h
       go false true e f h = direct-suits (eqb-true (kindOf w) 2 f) h
       go false false e f h = let g = both (eqb (kindOf w) 3) _ h in literal-suits (eqb-true (kindOf w) 3 (g .0)) (g .1)
 
   suits-placed : (a : Argument) → Suits p form w a → placed p form (argument (argumentText a)) ≡ fine w
-  suits-placed a s = ap (placed p form) (argument-back a (s .named)) ∙ rw (s .allowed, s .within) (ap fine (s .word))
+  suits-placed a s =
+      let (allowed, within) = both (allows form a) (isWithin p a) (s .accepted) in
+      ap (placed p form) (argument-back a (s .named)) ∙ rw (allowed, within) (ap fine (s .word))
 
   -- The text of a word that fits is read back as that word.
   pub word-back : wordFits p form w ≡ true → placed p form (argument (argumentText (argumentOf w))) ≡ fine w
@@ -214,23 +208,22 @@ bits-number (negsuc n) h =
 
 -- A word of kind 1, 2 or 3.
 module _ (p : Parameters) (form w : ℕ) where
-  register-fits : (r : ℕ) → kindOf w ≡ 1 → contentOf w ≡ r → between 256 258 r ≡ false → allows form (register r) ≡ true → isWithin p (register r) ≡ true →
+  register-fits : (r : ℕ) → kindOf w ≡ 1 → contentOf w ≡ r → between 256 258 r ≡ false → isAccepted p form (register r) ≡ true →
       wordFits p form w ≡ true
   unfolding wordFits
-  register-fits r k e b h g = simp (wordFits, k, e, b, h, g)
+  register-fits r k e b h = simp (wordFits, k, e, b) h
 
   special-fits : (r : ℕ) → kindOf w ≡ 1 → contentOf w ≡ r → between 256 258 r ≡ true → allows form (special r) ≡ true → wordFits p form w ≡ true
   unfolding wordFits
-  special-fits r k e b h = simp (wordFits, k, e, b, h)
+  special-fits r k e b h = simp (wordFits, k, e, b) h
 
-  direct-fits : (d : ℕ) → kindOf w ≡ 2 → contentOf w ≡ d → allows form (direct d) ≡ true → isWithin p (direct d) ≡ true → wordFits p form w ≡ true
+  direct-fits : (d : ℕ) → kindOf w ≡ 2 → contentOf w ≡ d → isAccepted p form (direct d) ≡ true → wordFits p form w ≡ true
   unfolding wordFits
-  direct-fits d k e h g = simp (wordFits, k, e, h, g)
+  direct-fits d k e h = simp (wordFits, k, e) h
 
-  literal-fits : (z : ℤ) → kindOf w ≡ 3 → numberOf (contentOf w) ≡ z → allows form (literal z) ≡ true → isWithin p (literal z) ≡ true →
-      wordFits p form w ≡ true
+  literal-fits : (z : ℤ) → kindOf w ≡ 3 → numberOf (contentOf w) ≡ z → isAccepted p form (literal z) ≡ true → wordFits p form w ≡ true
   unfolding wordFits
-  literal-fits z k e h g = simp (wordFits, k, e, h, g)
+  literal-fits z k e h = simp (wordFits, k, e) h
 
 word-kind : (k c : ℕ) → c < 2 ^ 30 → kindOf (wordOf k c) ≡ k
 word-kind k c h = omega arith
@@ -244,29 +237,29 @@ bits-small (negsuc n) h = omega arith
 
 -- "14 (register ≥ N, cell ≥ B, or number outside the range)" keeps each content within 30 bits, and a register below 256.
 module _ (p : Parameters) (limits : Limits p) (form : ℕ) where
-  argument-fits : (a : Argument) → Named a → allows form a ≡ true → isWithin p a ≡ true → wordFits p form (argumentWord a) ≡ true
+  argument-fits : (a : Argument) → Named a → isAccepted p form a ≡ true → wordFits p form (argumentWord a) ≡ true
   unfolding isWithin
-  argument-fits (register r) n h g =
-      let l = ltb-true r (p .n) g in
+  argument-fits (register r) n h =
+      let l = ltb-true r (p .n) (both (allows form (register r)) _ h .1) in
       let small : r < 2 ^ 30 = omega arith in
       let low : r < 256 = omega arith in
-      register-fits p form (wordOf 1 r) r (word-kind 1 r small) (word-content 1 r small) (simp (lt-leb 256 r low)) h g
-  argument-fits (special r) n h g =
+      register-fits p form (wordOf 1 r) r (word-kind 1 r small) (word-content 1 r small) (simp (lt-leb 256 r low)) h
+  argument-fits (special r) n h =
       let b = is-between 256 258 r n in
       let small : r < 2 ^ 30 = omega arith in
-      special-fits p form (wordOf 1 r) r (word-kind 1 r small) (word-content 1 r small) n h
-  argument-fits (direct d) n h g =
-      let l = ltb-true d (p .b) g in
+      special-fits p form (wordOf 1 r) r (word-kind 1 r small) (word-content 1 r small) n (both (allows form (special r)) true h .0)
+  argument-fits (direct d) n h =
+      let l = ltb-true d (p .b) (both (allows form (direct d)) _ h .1) in
       let small : d < 2 ^ 30 = omega arith in
-      direct-fits p form (wordOf 2 d) d (word-kind 2 d small) (word-content 2 d small) h g
-  argument-fits (literal z) n h g =
+      direct-fits p form (wordOf 2 d) d (word-kind 2 d small) (word-content 2 d small) h
+  argument-fits (literal z) n h =
       let low = limit-low (limits .k-low) in
       let high = limit-high (limits .k-high) in
-      let m = range-mag (limit (p .k)) z (omega arith) g in
+      let m = range-mag (limit (p .k)) z (omega arith) (both (allows form (literal z)) _ h .1) in
       let l : mag z < 2 ^ 29 = omega arith in
       let small = bits-small z l in
-      literal-fits p form (wordOf 3 (numberBits z)) z (word-kind 3 (numberBits z) small)
-      (ap numberOf (word-content 3 (numberBits z) small) ∙ bits-number z l) h g
+      let content = ap numberOf (word-content 3 (numberBits z) small) ∙ bits-number z l in
+      literal-fits p form (wordOf 3 (numberBits z)) z (word-kind 3 (numberBits z) small) content h
 
   -- What is accepted at a place fits there.
   pub placed-fits : (w : List ℕ) (x : ℕ) → placed p form (argument w) ≡ fine x → wordFits p form x ≡ true
@@ -276,8 +269,8 @@ module _ (p : Parameters) (limits : Limits p) (form : ℕ) where
       go none n e = cc
       go (some a) n e = at (allows form a) (isWithin p a) refl refl e
         where
-          at : (y z : Bool) → allows form a ≡ y → isWithin p a ≡ z → cond y (cond z (fine (argumentWord a)) (fault 14)) (fault 13) ≡ fine x →
-              wordFits p form x ≡ true
+          at : (y z : Bool) → allows form a ≡ y → isWithin p a ≡ z →
+              cond y (cond z (fine (argumentWord a)) (fault 14)) (fault 13) ≡ fine x → wordFits p form x ≡ true
           at false z h g e = cc
           at true false h g e = cc
-          at true true h g e = let q : argumentWord a ≡ x = cc in rw q at (argument-fits a n h g)
+          at true true h g e = let q : argumentWord a ≡ x = cc in rw q at (argument-fits a n (and-both h g))

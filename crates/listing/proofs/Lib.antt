@@ -1,5 +1,7 @@
 pub mod Bytes
-pub mod Names
+pub mod Rows
 pub mod Arguments
 pub mod Lines
+pub mod Loads
 pub mod Refusal10
+pub mod Spellings

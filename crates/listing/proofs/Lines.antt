@@ -1,22 +1,22 @@
 -- A cell that fits is read back from its line, and a line that is accepted gives a cell that fits. Assumes nothing.
-use Prim.Native.Nat.{ℕ, zero, suc, _+_, _≤_, _<_}
+use Prim.Native.Nat.{ℕ, zero, suc, _≤_}
 use mathlib.Core.Path.{_≡_, refl, sym, ap, _∙_}
-use mathlib.Core.Bool.{Bool, true, false, _&&_}
+use mathlib.Core.Bool.{Bool, true, false}
 use mathlib.Core.List.{List, [], _∷_, _++_, map, append-assoc, append-nil}
 use native.Mathlib.Omega.{arith}
-use lib.Dec.{eqb, leb}
+use lib.Dec.{eqb}
 use lib.ListN.{length, getD, take}
 use borrow.Author.Tests.{eqb-true, eqb-false, eq-eqb, ne-eqb, le-leb}
 use Rattle.model.specs.declared.Parameters.{Parameters}
 use Rattle.model.specs.Parameters.{between}
 use Rattle.model.specs.Words.{Cell, cellWith, isEmpty}
 use Rattle.model.specs.Instructions.{rows, rowOf}
-use Rattle.model.specs.Load.{words, lookup, argument, Checked, fine, fault, placed, argumentsFrom, headed, lineCell, lineOf}
+use Rattle.model.specs.Load.{lookup, argument, Checked, fine, fault, placed, argumentsFrom, headed, lineCell, lineOf}
 use Rattle.model.specs.Images.{wordFits, wordsFit, cellFits}
 use Rattle.model.proofs.Fits.{both, and-both, is-between, Limits}
 use Rattle.listing.specs.Listing.{argumentOf, argumentText, instructionWords, spaced}
-use Rattle.listing.proofs.Bytes.{isWord, areWords, words-back}
-use Rattle.listing.proofs.Names.{name-word, three-forms, name-back, lookup-number}
+use Rattle.listing.proofs.Bytes.{areWords, words-back}
+use Rattle.listing.proofs.Rows.{name-word, three-forms, name-back, lookup-number}
 use Rattle.listing.proofs.Arguments.{text-word, word-back, placed-fits}
 
 -- The text of an image word.
@@ -94,12 +94,15 @@ module _ (p : Parameters) where
       let f = both (between 1 (length rows) (c .head)) (wordsFit p forms ws) h in
       let n = is-between 1 (length rows) (c .head) (f .0) in
       let at : (i : ℕ) → getD (take (length forms) ws) i 0 ≡ getD ws i 0 = λ i. absent forms ws i (f .1) in
-      good-line (c .head) (rowOf (c .head) .name) (map text (take (length forms) ws)) (name-back (c .head) (n .0) (n .1)) (n .0) (arguments-count forms ws (f .1))
+      let name = name-back (c .head) (n .0) (n .1) in
+      let count = arguments-count forms ws (f .1) in
+      good-line (c .head) (rowOf (c .head) .name) (map text (take (length forms) ws)) name (n .0) count
       ∙ ap (headed (c .head)) (arguments-back forms ws [] (f .1))
       ∙ ap fine (same-cell c (take (length forms) ws) (at 0) (at 1) (at 2))
 
-  pub line-back : (c : Cell) → cellFits p c ≡ true → lineOf p (spaced (instructionWords c)) ≡ fine c
-  line-back c h = ap (lineCell p) (words-back (instructionWords c) (cell-words c)) ∙ line-cell c h
+  -- Its line, read back.
+  pub cell-back : (c : Cell) → cellFits p c ≡ true → lineOf p (spaced (instructionWords c)) ≡ fine c
+  cell-back c h = ap (lineCell p) (words-back (instructionWords c) (cell-words c)) ∙ line-cell c h
 
   -- TO A CELL THAT FITS
   pub full-cell : (c : Cell) → cellFits p c ≡ true → isEmpty c ≡ false
@@ -109,17 +112,22 @@ module _ (p : Parameters) where
       let n = is-between 1 (length rows) (c .head) (f .0) in
       simp (ne-eqb (c .head) 0 (λ e. omega arith))
 
-  -- Words that are read at these places.
+  -- What is read at these places, behind xs.
   record Read (forms xs ys : List ℕ) : Type 0 where
     behind : List ℕ
     whole : ys ≡ xs ++ behind
     fit : wordsFit p forms behind ≡ true
 
+  abbrev Reads : (forms xs : List ℕ) → Checked (List ℕ) → Type 0
+  Reads forms xs o = (ys : List ℕ) → o ≡ fine ys → Read forms xs ys
+
   padded-fits : (n : ℕ) (forms xs : List ℕ) → length forms ≤ n → wordsFit p forms xs ≡ true → wordsFit p forms (padded n xs) ≡ true
   unfolding wordsFit padded
   padded-fits zero [] xs l h = refl
   padded-fits (suc n) [] [] l h = padded-fits n [] [] (omega arith) refl
-  padded-fits (suc n) [] (x ∷ xs) l h = let k = both (eqb x 0) (wordsFit p [] xs) h in and-both (k .0) (padded-fits n [] xs (omega arith) (k .1))
+  padded-fits (suc n) [] (x ∷ xs) l h =
+      let k = both (eqb x 0) (wordsFit p [] xs) h in
+      and-both (k .0) (padded-fits n [] xs (omega arith) (k .1))
   padded-fits zero (f ∷ fs) xs l h = absurd (omega arith)
   padded-fits (suc n) (f ∷ fs) [] l h = cc
   padded-fits (suc n) (f ∷ fs) (x ∷ xs) l h =
@@ -138,45 +146,52 @@ module _ (p : Parameters) where
   nop-fits = refl
 
   module _ (limits : Limits p) where
-    arguments-fit : (forms : List ℕ) (ws : List (List ℕ)) (xs ys : List ℕ) → argumentsFrom p xs forms ws ≡ fine ys → Read forms xs ys
+    arguments-fit : (forms : List ℕ) (ws : List (List ℕ)) (xs : List ℕ) → Reads forms xs (argumentsFrom p xs forms ws)
     unfolding argumentsFrom wordsFit
-    arguments-fit [] ws xs ys h = let e : xs ≡ ys = cc in record { behind = []; whole = sym e ∙ sym (append-nil xs); fit = refl }
+    arguments-fit [] ws xs ys h = let e : ys ≡ xs = cc in record { behind = []; whole = e ∙ sym (append-nil xs); fit = refl }
     arguments-fit (f ∷ fs) [] xs ys h = let z : _≡_ {A = ℕ} 0 1 = cc in absurd (omega arith)
-    arguments-fit (f ∷ fs) (w ∷ ws) xs ys h = go (placed p f (argument w)) refl (λ x. arguments-fit fs ws (xs ++ (x ∷ [])) ys) h
+    arguments-fit (f ∷ fs) (w ∷ ws) xs ys h = go (placed p f (argument w)) refl (λ x. arguments-fit fs ws (xs ++ (x ∷ []))) ys h
       where
-        go : (o : Checked ℕ) → placed p f (argument w) ≡ o → ((x : ℕ) → argumentsFrom p (xs ++ (x ∷ [])) fs ws ≡ fine ys → Read fs (xs ++ (x ∷ [])) ys) →
-            (elim o as (λ y. Checked (List ℕ)) [ fine x ↦ argumentsFrom p (xs ++ (x ∷ [])) fs ws | fault k ↦ fault k ]) ≡ fine ys → Read (f ∷ fs) xs ys
-        go (fine x) e ih h =
-            let r = ih x h in
+        next : ℕ → Checked (List ℕ)
+        next x = argumentsFrom p (xs ++ (x ∷ [])) fs ws
+
+        go : (o : Checked ℕ) → placed p f (argument w) ≡ o → ((x : ℕ) → Reads fs (xs ++ (x ∷ [])) (next x)) →
+            Reads (f ∷ fs) xs (elim o [ fine x ↦ next x | fault k ↦ fault k ])
+        go (fine x) e ih ys h =
+            let r = ih x ys h in
             record {
               behind = x ∷ r .behind;
               whole = r .whole ∙ append-assoc xs (x ∷ []) (r .behind);
               fit = and-both (placed-fits p limits f w x e) (r .fit);
             }
-        go (fault k) e ih h = let z : _≡_ {A = ℕ} 0 1 = cc in absurd (omega arith)
+        go (fault k) e ih ys h = let z : _≡_ {A = ℕ} 0 1 = cc in absurd (omega arith)
 
-    headed-fits : (n : ℕ) (o : Checked (List ℕ)) (c : Cell) → 1 ≤ n → n ≤ length rows → ((ys : List ℕ) → o ≡ fine ys → Read (rowOf n .forms) [] ys) →
-        headed n o ≡ fine c → cellFits p c ≡ true
-    headed-fits n (fine ys) c l h r e =
+    headed-fits : (n : ℕ) → 1 ≤ n → n ≤ length rows → (o : Checked (List ℕ)) → Reads (rowOf n .forms) [] o → (c : Cell) → headed n o ≡ fine c →
+        cellFits p c ≡ true
+    headed-fits n l h (fine ys) r c e =
         let k = r ys refl in
         let q : cellWith n ys ≡ c = cc in
         let f : wordsFit p (rowOf n .forms) ys ≡ true = rw (k .whole) (k .fit) in
         rw q at (cell-fits n ys l h f)
-    headed-fits n (fault k) c l h r e = cc
+    headed-fits n l h (fault k) r c e = cc
 
     -- What a line is accepted as fits.
     pub line-fits : (ws : List (List ℕ)) (c : Cell) → lineCell p ws ≡ fine c → cellFits p c ≡ true
     unfolding lineCell
     line-fits [] c h = let q : cellWith 44 [] ≡ c = cc in rw q at nop-fits
-    line-fits (w ∷ ws) c h = go (eqb (lookup w) 0) refl (eqb (length ws) (length (rowOf (lookup w) .forms))) h
+    line-fits (w ∷ ws) c h = go (eqb (lookup w) 0) (eqb (length ws) (length forms)) refl h
       where
-        read : Checked Cell
-        read = headed (lookup w) (argumentsFrom p [] (rowOf (lookup w) .forms) ws)
+        forms : List ℕ
+        forms = rowOf (lookup w) .forms
 
-        go : (x : Bool) → eqb (lookup w) 0 ≡ x → (y : Bool) → (elim x as (λ z. Checked Cell) [ true ↦ fault 11 | false ↦ elim y [ true ↦ read | false ↦ fault 12 ] ]) ≡ fine c →
+        read : Checked (List ℕ)
+        read = argumentsFrom p [] forms ws
+
+        go : (x y : Bool) → eqb (lookup w) 0 ≡ x →
+            (elim x as (λ z. Checked Cell) [ true ↦ fault 11 | false ↦ elim y [ true ↦ headed (lookup w) read | false ↦ fault 12 ] ]) ≡ fine c →
             cellFits p c ≡ true
-        go true e y h = cc
-        go false e false h = cc
-        go false e true h =
+        go true y e h = cc
+        go false false e h = cc
+        go false true e h =
             let n = lookup-number w (eqb-false (lookup w) 0 e) in
-            headed-fits (lookup w) (argumentsFrom p [] (rowOf (lookup w) .forms) ws) c (n .0) (n .1) (arguments-fit (rowOf (lookup w) .forms) ws []) h
+            headed-fits (lookup w) (n .0) (n .1) read (arguments-fit forms ws []) c h

@@ -1,4 +1,4 @@
--- Request E7's listing of an image: a text that loads as that image.
+-- Request E7: the listing of an image, a text that loads as that image.
 use Prim.Native.Nat.{ℕ, zero, suc}
 use mathlib.Core.Bool.{cond}
 use mathlib.Core.List.{List, [], _∷_, _++_, map}
