@@ -24,7 +24,7 @@ abbrev pub isInner : ℕ → Bool
 isInner b = not (eqb b 10) && isByte b
 
 -- A byte of a word.
-abbrev pub isPlain : ℕ → Bool
+abbrev isPlain : ℕ → Bool
 isPlain b = not (isComment b) && not (isSeparator b) && isInner b
 
 abbrev pub all : (ℕ → Bool) → List ℕ → Bool

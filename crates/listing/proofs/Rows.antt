@@ -53,10 +53,10 @@ name-back n l h = numbered-at 1 rows (n - 1) _ all-numbered (omega arith) ∙ om
 abbrev Found : (k n x : ℕ) → Type 0
 Found k n x = ¬ (x ≡ 0) → (k ≤ x) × (x < k + n)
 
-found : (k : ℕ) (w : List ℕ) (ns : List (List ℕ)) → Found k (length ns) (lookupFrom k w ns)
+lookup-found : (k : ℕ) (w : List ℕ) (ns : List (List ℕ)) → Found k (length ns) (lookupFrom k w ns)
 unfolding lookupFrom
-found k w [] = λ h. absurd (h refl)
-found k w (n ∷ ns) = go (sameWord w n) (found (suc k) w ns)
+lookup-found k w [] = λ h. absurd (h refl)
+lookup-found k w (n ∷ ns) = go (sameWord w n) (lookup-found (suc k) w ns)
   where
     go : (b : Bool) → Found (suc k) (length ns) (lookupFrom (suc k) w ns) →
         Found k (suc (length ns)) (elim b [ true ↦ k | false ↦ lookupFrom (suc k) w ns ])
@@ -65,4 +65,4 @@ found k w (n ∷ ns) = go (sameWord w n) (found (suc k) w ns)
 
 pub lookup-number : (w : List ℕ) → ¬ (lookup w ≡ 0) → (1 ≤ lookup w) × (lookup w ≤ length rows)
 unfolding names
-lookup-number w h = let i = found 1 w names h in (i .0, omega arith)
+lookup-number w h = let i = lookup-found 1 w names h in (i .0, omega arith)

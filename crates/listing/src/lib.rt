@@ -1,1 +1,1 @@
-// The listing of an image. Only its definition and theorems stand here so far: that loading it gives the image, and which images some text yields.
+// The listing of an image: its definition (specs/), that loading it gives the image, and which images some text yields (proofs/). No code yet.
