@@ -152,13 +152,9 @@ abbrev NamedIn : Option Argument → Type 0
 NamedIn none = Unit {0}
 NamedIn (some a) = Named a
 
-mapped-named : (f : ℕ → Argument) → ((n : ℕ) → Named (f n)) → (o : Option ℕ) → NamedIn (mapped f o)
+mapped-named : {A : Type 0} (f : A → Argument) → ((a : A) → Named (f a)) → (o : Option A) → NamedIn (mapped f o)
 mapped-named f h none = tt
-mapped-named f h (some n) = h n
-
-literal-named : (o : Option ℤ) → NamedIn (mapped literal o)
-literal-named none = tt
-literal-named (some z) = tt
+mapped-named f h (some a) = h a
 
 after-named : (s : List ℕ) → NamedIn (afterD s)
 after-named [] = tt
@@ -177,7 +173,7 @@ plain-named (b ∷ s) = go (eqb (upper b) 82) (eqb (upper b) 68)
         NamedIn (elim x [ true ↦ mapped register (natural s) | false ↦ elim y [ true ↦ afterD s | false ↦ mapped literal (number (b ∷ s)) ] ])
     go true y = mapped-named register (λ n. tt) (natural s)
     go false true = after-named s
-    go false false = literal-named (number (b ∷ s))
+    go false false = mapped-named literal (λ z. tt) (number (b ∷ s))
 
 special-number : (w : List ℕ) → eqb (specialOf w) 0 ≡ false → between 256 258 (specialOf w) ≡ true
 unfolding specialOf
