@@ -56,6 +56,20 @@ pub no-refusal : (cs : List Check) → AllFit cs → refusalOf cs ≡ 0
 no-refusal [] f = refl
 no-refusal (c ∷ cs) f = rw (f .0) (no-refusal cs (f .1))
 
+-- The first checks refuse, or those behind them decide.
+pub refusal-first : (xs ys : List Check) → ¬ (refusalOf xs ≡ 0) → refusalOf (xs ++ ys) ≡ refusalOf xs
+refusal-first [] ys h = absurd (h refl)
+refusal-first (x ∷ xs) ys h = go (x .fit) h (refusal-first xs ys)
+  where
+    go : (b : Bool) → ¬ (cond b (refusalOf xs) (x .number) ≡ 0) → (¬ (refusalOf xs ≡ 0) → refusalOf (xs ++ ys) ≡ refusalOf xs) →
+        cond b (refusalOf (xs ++ ys)) (x .number) ≡ cond b (refusalOf xs) (x .number)
+    go true h ih = ih h
+    go false h ih = refl
+
+pub refusal-later : (xs ys : List Check) → AllFit xs → refusalOf (xs ++ ys) ≡ refusalOf ys
+refusal-later [] ys f = refl
+refusal-later (x ∷ xs) ys f = rw (f .0) (refusal-later xs ys (f .1))
+
 pub fit-left : (xs ys : List Check) → AllFit (xs ++ ys) → AllFit xs
 fit-left [] ys f = tt
 fit-left (x ∷ xs) ys f = (f .0, fit-left xs ys (f .1))

@@ -1,0 +1,56 @@
+-- Load's reply and its image, check by check. Assumes nothing.
+use Prim.Native.Nat.{ℕ, zero, suc, _*_, _≤_, _<_}
+use mathlib.Core.Path.{_≡_, refl, sym, ap, subst, _∙_}
+use mathlib.Core.List.{List, [], _∷_}
+use native.Mathlib.Omega.{arith}
+use lib.Dec.{leb}
+use lib.ListN.{length, take}
+use borrow.Author.Tests.{eq-eqb, ne-eqb, le-leb, lt-leb}
+use Rattle.model.specs.declared.Parameters.{Parameters}
+use Rattle.model.specs.declared.LoadReply.{LoadReply}
+use Rattle.model.specs.declared.LoadReply.the-variants.{Accepted, Refused}
+use Rattle.model.specs.Parameters.{Check, _unless_, refusalOf, parameterChecks, Fit}
+use Rattle.model.specs.Load.{lengthCheck, textReply, loadChecks, loadReply, imageAfter}
+use Rattle.model.proofs.Fits.{all-fit, parameters-numbered, refusal-first, refusal-later}
+use Rattle.loader.specs.Cells.{Holds}
+
+module _ (p : Parameters) (text old : List ℕ) where
+  -- The reply and the image together, of a refusal by the checks and of a text that they pass.
+  refused : (r : ℕ) → ¬ (r ≡ 0) → refusalOf (loadChecks p text old) ≡ r → Refused r 0 ≡ loadReply p text old
+  unfolding loadReply
+  refused zero h e = absurd (h refl)
+  refused (suc k) h e = simp (loadReply, e)
+
+  passed : refusalOf (loadChecks p text old) ≡ 0 → loadReply p text old ≡ textReply p text
+  unfolding loadReply
+  passed e = simp (loadReply, e)
+
+  abbrev own : List Check
+  own = lengthCheck p old ∷ 7 unless (leb (length text) 65536) ∷ []
+
+  pub by-parameters : {r : ℕ} → r ≡ refusalOf (parameterChecks p) → ¬ (r ≡ 0) → Refused r 0 ≡ loadReply p text old
+  unfolding loadChecks
+  by-parameters {r} e h = refused r h (refusal-first (parameterChecks p) own (λ q. h (e ∙ q)) ∙ sym e)
+
+  module _ (fit : Fit p) where
+    behind : refusalOf (loadChecks p text old) ≡ refusalOf own
+    unfolding loadChecks
+    behind = refusal-later (parameterChecks p) own (all-fit (parameterChecks p) (parameters-numbered p) fit)
+
+    pub by-length : ¬ (length old ≡ 4 * p .t) → Refused 6 0 ≡ loadReply p text old
+    by-length h = refused 6 (λ e. absurd (omega arith)) (behind ∙ simp (ne-eqb _ _ h))
+
+    pub by-text : length old ≡ 4 * p .t → 65536 < length text → Refused 7 0 ≡ loadReply p text old
+    by-text e h = refused 7 (λ e. absurd (omega arith)) (behind ∙ simp (eq-eqb _ _ e, lt-leb _ _ h))
+
+    pub by-lines : length old ≡ 4 * p .t → length text ≤ 65536 → {r : LoadReply} → r ≡ textReply p text → r ≡ loadReply p text old
+    by-lines e h q = q ∙ sym (passed (behind ∙ simp (eq-eqb _ _ e, le-leb _ _ h)))
+
+  -- The image of an accepted text is copied from the cells; that of a refused one stays.
+  pub image-written : (cells new : List ℕ) {r : LoadReply} {n : ℕ} → r ≡ Accepted n → Holds p text cells r → length old ≡ 4 * p .t →
+      new ≡ take (length old) cells → new ≡ imageAfter p text old r
+  image-written cells new e h l q =
+      q ∙ ap (λ (k : ℕ). take k cells) l ∙ subst (Holds p text cells) e h ∙ sym (ap (imageAfter p text old) e)
+
+  pub image-kept : {r : LoadReply} {k i : ℕ} → r ≡ Refused k i → old ≡ imageAfter p text old r
+  image-kept e = sym (ap (imageAfter p text old) e)

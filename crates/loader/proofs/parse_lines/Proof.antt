@@ -1,0 +1,184 @@
+use Prim.Native.Nat.{ℕ, _+_, _*_, _-_, _<_}
+use mathlib.Core.List.{_∷_, []}
+use mathlib.Core.Path.{_≡_, sym, ap, _∙_}
+use native.Mathlib.Omega.{arith}
+use lib.Dec.{leb}
+use lib.Arith.{lt-of-le-ne}
+use lib.Seq.{length-sets}
+use lib.ListN.{length, drop, length-replicate}
+use borrow.Author.Needs.{needs}
+use denote.Ref.{now}
+use Rattle.model.specs.Load.{lines}
+use Rattle.model.proofs.Fits.{limits}
+use Rattle.text.proofs.Walks.{no-lines}
+use Rattle.loader.proofs.TextLaws.{Standing, at-start, too-many, at-fault, at-cell, all-read, refused-line, room}
+use Rattle.loader.proofs.parse_lines.Statement.{statement}
+use Rattle.loader.proofs.parse_lines.Tie as tie
+
+abbrev Inv-loop : tie.InvT-loop
+Inv-loop text p m cells₀ keys forms t at₀ i₀ cells at i = (length cells ≡ 16384) × Standing p text cells at i
+
+abbrev μ-loop : tie.MeasureT-loop
+μ-loop text p m cells₀ keys forms t at₀ i₀ cells at i = length text - at
+
+cells-size : (s : tie.Start Inv-loop μ-loop) → length (now (s .args .cells)) ≡ 16384
+cells-size s = ap length (s .pre .1) ∙ length-replicate {A = ℕ} 16384 0
+
+key-table-requires : tie.Need-key-table-requires Inv-loop μ-loop
+key-table-requires c κs = search needs
+
+form-table-requires : tie.Need-form-table-requires Inv-loop μ-loop
+form-table-requires c κs = search needs
+
+cast-t : tie.Need-cast-t Inv-loop μ-loop
+cast-t c = search needs
+
+loop-holds : tie.Need-loop-holds Inv-loop μ-loop
+loop-holds c =
+    let s = c .before .before .before .before .before in
+    (cells-size s, at-start (s .args .p) (now (s .args .text)) (now (s .args .cells)) (s .pre .1))
+
+next-line-requires : tie.Need-next-line-requires Inv-loop μ-loop
+next-line-requires c κs = search needs
+
+same-length : tie.Need-same-length Inv-loop μ-loop
+same-length c = let at = c .before .before .before in at .loop .inv .0 ∙ sym (cells-size (at .before .before .before .before .before .before))
+
+returns : tie.Need-returns Inv-loop μ-loop
+returns c =
+    let e = c in
+    let at = e .before .before .before in
+    let s = at .before .before .before .before .before .before in
+    let p = s .args .p in
+    let text = now (s .args .text) in
+    let n = e .before .next-line .ensures in
+    (sym (too-many p text (at .loop .inv .1) n (c .if1 .taken)), (tt, at .loop .inv .0))
+
+sub-parse-line : tie.Need-sub-parse-line Inv-loop μ-loop
+sub-parse-line c = search needs
+
+part-parse-line-start : tie.Need-part-parse-line-start Inv-loop μ-loop
+part-parse-line-start c = search needs
+
+part-parse-line-end : tie.Need-part-parse-line-end Inv-loop μ-loop
+part-parse-line-end c = search needs
+
+slice-aggregate-parse-line : tie.Need-slice-aggregate-parse-line Inv-loop μ-loop
+slice-aggregate-parse-line c = search needs
+
+slice-aggregate-parse-line-2 : tie.Need-slice-aggregate-parse-line-2 Inv-loop μ-loop
+slice-aggregate-parse-line-2 c = search needs
+
+parse-line-requires : tie.Need-parse-line-requires Inv-loop μ-loop
+parse-line-requires c κs = search needs
+
+enum-known-parsed : tie.Need-enum-known-parsed Inv-loop μ-loop
+enum-known-parsed c = search needs
+
+refuse-line-requires : tie.Need-refuse-line-requires Inv-loop μ-loop
+refuse-line-requires c κs = search needs
+
+same-length-2 : tie.Need-same-length-2 Inv-loop μ-loop
+same-length-2 c = let at = c .before .before .before .before .before .before .before .before .before .before .before in at .loop .inv .0 ∙ sym (cells-size (at .before .before .before .before .before .before))
+
+returns-2 : tie.Need-returns-2 Inv-loop μ-loop
+returns-2 c =
+    let e = c .before .before .before .before .before .before .before .before in
+    let at = e .before .before .before in
+    let s = at .before .before .before .before .before .before in
+    let p = s .args .p in
+    let text = now (s .args .text) in
+    let n = e .before .next-line .ensures in
+    let q = at-fault p text (at .loop .inv .1) n _ (sym (c .before .before .before .before .parse-line .ensures) ∙ c .before .before .parsed .given .1) in
+    let left = length (lines (drop (e .before .next-line .result .next) text)) in
+    refused-line p text (at .loop .cells) (leb (at .loop .i + 1 + left) (p .t)) (c .before .before .parsed .given .0 .0) (at .loop .i)
+    (c .refuse-line .ensures) q (at .loop .inv .0)
+
+enum-known-parsed-2 : tie.Need-enum-known-parsed-2 Inv-loop μ-loop
+enum-known-parsed-2 c = search needs
+
+mul-put-cell : tie.Need-mul-put-cell Inv-loop μ-loop
+mul-put-cell c = search needs
+
+put-cell-requires : tie.Need-put-cell-requires Inv-loop μ-loop
+put-cell-requires c κs =
+    let e = c .before .before .before .before .before .before .before .before in
+    let at = e .before .before .before in
+    let s = at .before .before .before .before .before .before in
+    let p = s .args .p in
+    let l = limits p (s .pre .0 .0) in
+    room (at .loop .inv .1 .few) (e .if1 .left) (l .t-high) (at .loop .inv .0)
+
+add-i : tie.Need-add-i Inv-loop μ-loop
+add-i c =
+    let e = c .before .before .before .before .before .before .before .before .before .before .before in
+    let at = e .before .before .before in
+    let s = at .before .before .before .before .before .before in
+    let p = s .args .p in
+    let l = limits p (s .pre .0 .0) in
+    record { fits = omega (arith, at .loop .inv .1 .few, l .t-high) }
+
+loop-less : tie.Need-loop-less Inv-loop μ-loop
+loop-less c = search needs
+
+loop-again : tie.Need-loop-again Inv-loop μ-loop
+loop-again c =
+    let e = c .before .before .before .before .before .before .before .before .before .before .before in
+    let at = e .before .before .before in
+    let s = at .before .before .before .before .before .before in
+    let p = s .args .p in
+    let text = now (s .args .text) in
+    let n = e .before .next-line .ensures in
+    let l = limits p (s .pre .0 .0) in
+    let q = sym (c .before .before .before .before .before .before .before .parse-line .ensures) ∙ c .before .before .before .before .before .parsed2 .given .1 in
+    let i : at .loop .i < p .t = lt-of-le-ne (at .loop .inv .1 .few) (e .if1 .left) in
+    let v = c .before .before .before .before .before .parsed2 .given .0 in
+    let put = c .before .before .put-cell .ensures in (
+      rw put (length-sets (at .loop .cells) (4 * at .loop .i) (v .0 ∷ v .1 .0 ∷ v .1 .1 .0 ∷ v .1 .1 .1 .0 ∷ []) ∙ at .loop .inv .0),
+      rw put (at-cell p text (at .loop .inv .1) n _ _ _ _ i (l .t-high) q),
+    )
+
+same-length-3 : tie.Need-same-length-3 Inv-loop μ-loop
+same-length-3 c = let at = c .before in at .loop .inv .0 ∙ sym (cells-size (at .before .before .before .before .before .before))
+
+returns-3 : tie.Need-returns-3 Inv-loop μ-loop
+returns-3 c =
+    let at = c .before in
+    let s = at .before .before .before .before .before .before in
+    let p = s .args .p in
+    let text = now (s .args .text) in
+    let l = limits p (s .pre .0 .0) in
+    let r = all-read p text (at .loop .inv .1) (l .t-high) (no-lines text (at .loop .at) (c .loop-test .left)) in
+    (r .0, (r .1, at .loop .inv .0))
+
+pub parse-lines-spec : {M : Type 1} → statement M
+parse-lines-spec =
+    tie.close
+    (tie.spec
+    Inv-loop
+    μ-loop
+    key-table-requires
+    form-table-requires
+    cast-t
+    loop-holds
+    next-line-requires
+    same-length
+    returns
+    sub-parse-line
+    part-parse-line-start
+    part-parse-line-end
+    slice-aggregate-parse-line
+    slice-aggregate-parse-line-2
+    parse-line-requires
+    enum-known-parsed
+    refuse-line-requires
+    same-length-2
+    returns-2
+    enum-known-parsed-2
+    mul-put-cell
+    put-cell-requires
+    add-i
+    loop-less
+    loop-again
+    same-length-3
+    returns-3)
