@@ -18,7 +18,7 @@ use model::Parameters;
 use model::Record;
 use parser::line::Parsed;
 use parser::line::parse_line;
-use parser::names::key_table;
+use symbols::names::key_table;
 use text::lines::count_lines;
 use text::lines::next_line;
 

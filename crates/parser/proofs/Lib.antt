@@ -1,3 +1,1 @@
-pub mod NameLaws
-pub mod ArgumentLaws
 pub mod LineLaws

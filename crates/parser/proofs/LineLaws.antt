@@ -18,8 +18,8 @@ use Rattle.image.specs.Forms.{packed}
 use Rattle.text.specs.Parts.{part}
 use Rattle.text.specs.Words.{NextWord}
 use Rattle.text.proofs.Walks.{first-word}
-use Rattle.parser.specs.declared.arguments.Placed.the-variants.{Word, Fault}
-use Rattle.parser.specs.Arguments.{placedOf}
+use Rattle.symbols.specs.declared.arguments.Placed.the-variants.{Word, Fault}
+use Rattle.symbols.specs.Arguments.{placedOf}
 use Rattle.parser.specs.Lines.{formCount, counted}
 
 -- PACKED FORMS

@@ -1,3 +1,1 @@
-pub mod Keys
-pub mod Arguments
 pub mod Lines

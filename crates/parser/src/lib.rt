@@ -1,4 +1,2 @@
 // A line of a TCL text into the words of its cell, or the number of its fault.
-pub mod arguments;
 pub mod line;
-pub mod names;

@@ -10,7 +10,7 @@ use Rattle.model.specs.Load.{words, lineCell}
 use Rattle.text.specs.Parts.{part}
 use Rattle.text.proofs.Walks.{first-word}
 use Rattle.parser.specs.Lines.{parsedOf, counted}
-use Rattle.parser.proofs.NameLaws.{lookup-high}
+use Rattle.symbols.proofs.NameLaws.{lookup-high}
 use Rattle.parser.proofs.LineLaws.{line-empty, line-unknown, line-known}
 use Rattle.parser.proofs.line.parse_line.Statement.{statement}
 use Rattle.parser.proofs.line.parse_line.Tie as tie

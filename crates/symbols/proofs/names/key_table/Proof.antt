@@ -1,0 +1,12 @@
+use mathlib.Core.Path.{refl}
+use Rattle.model.specs.Load.{names}
+use Rattle.symbols.specs.Keys.{keyFrom, keyTable}
+use Rattle.symbols.proofs.names.key_table.Statement.{statement}
+use Rattle.symbols.proofs.names.key_table.Tie as tie
+
+returns : tie.Need-returns
+unfolding keyTable keyFrom names
+returns c = refl
+
+pub key-table-spec : {M : Type 1} → statement M
+key-table-spec = tie.close (tie.spec returns)
