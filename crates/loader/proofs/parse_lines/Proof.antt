@@ -4,7 +4,7 @@ use mathlib.Core.Path.{_≡_, sym, ap, _∙_}
 use native.Mathlib.Omega.{arith}
 use lib.Dec.{leb}
 use lib.Arith.{lt-of-le-ne}
-use lib.Seq.{length-sets}
+use lib.Seq.{sets, length-sets}
 use lib.ListN.{length, drop, length-replicate}
 use borrow.Author.Needs.{needs}
 use denote.Ref.{now}
@@ -133,10 +133,9 @@ loop-again c =
     let q = sym (c .before .before .before .before .before .before .before .parse-line .ensures) ∙ c .before .before .before .before .before .parsed2 .given .1 in
     let i : at .loop .i < p .t = lt-of-le-ne (at .loop .inv .1 .few) (e .if1 .left) in
     let v = c .before .before .before .before .before .parsed2 .given .0 in
-    let put = c .before .before .put-cell .ensures in (
-      rw put (length-sets (at .loop .cells) (4 * at .loop .i) (v .0 ∷ v .1 .0 ∷ v .1 .1 .0 ∷ v .1 .1 .1 .0 ∷ []) ∙ at .loop .inv .0),
-      rw put (at-cell p text (at .loop .inv .1) n _ _ _ _ i (l .t-high) q),
-    )
+    let ws = v .0 ∷ v .1 .0 ∷ v .1 .1 .0 ∷ v .1 .1 .1 .0 ∷ [] in
+    let put : c .before .before .put-cell .last .0 ≡ sets (at .loop .cells) (4 * at .loop .i) ws = c .before .before .put-cell .ensures in
+    (rw put (length-sets (at .loop .cells) (4 * at .loop .i) ws ∙ at .loop .inv .0), rw put (at-cell p text (at .loop .inv .1) n _ _ _ _ i (l .t-high) q))
 
 same-length-3 : tie.Need-same-length-3 Inv-loop μ-loop
 same-length-3 c = let at = c .before in at .loop .inv .0 ∙ sym (cells-size (at .before .before .before .before .before .before))
