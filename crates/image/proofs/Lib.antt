@@ -1,1 +1,4 @@
+pub mod FitLaws
 pub mod FormLaws
+pub mod RowLaws
+pub mod WordLaws

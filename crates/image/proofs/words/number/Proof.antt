@@ -1,0 +1,30 @@
+use Prim.Native.Nat.{_<_, _^_}
+use native.Mathlib.Omega.{arith}
+use borrow.Author.Needs.{needs}
+use mir.Facts.{toZ-ofZ}
+use Rattle.image.proofs.WordLaws.{number-read, number-fits}
+use Rattle.image.proofs.words.number.Statement.{statement}
+use Rattle.image.proofs.words.number.Tie as tie
+
+below : (c : tie.After-content) → c .content .result < 2 ^ 30
+below c = omega (arith, c .content .ensures)
+
+content-requires : tie.Need-content-requires
+content-requires c κs = search needs
+
+add-raised : tie.Need-add-raised
+add-raised c = search needs
+
+cast-result : tie.Need-cast-result
+cast-result c = search needs
+
+sub-result : tie.Need-sub-result
+sub-result c = rw (number-read (c .content .result) (below c)) (number-fits (c .content .result) (below c))
+
+returns : tie.Need-returns
+returns c =
+    let f = number-fits (c .content .result) (below c) in
+    rw (number-read (c .content .result) (below c), toZ-ofZ f, c .content .ensures)
+
+pub number-spec : {M : Type 1} → statement M
+number-spec = tie.close (tie.spec content-requires add-raised cast-result sub-result returns)

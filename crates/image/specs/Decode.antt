@@ -1,0 +1,42 @@
+-- What the decoder answers.
+use Prim.Native.Nat.{ℕ, _/_, _%_}
+use mathlib.Core.Bool.{Bool, _&&_, cond}
+use lib.Dec.{eqb, ltb}
+use lib.IntN.{ℤ}
+use Rattle.model.specs.declared.Parameters.{Parameters}
+use Rattle.model.specs.Parameters.{between, inRange}
+use Rattle.model.specs.Words.{Cell, isEmpty}
+use Rattle.model.specs.Images.{wordFits, cellFits}
+use Rattle.image.specs.declared.decode.Instruction.{Instruction}
+use Rattle.image.specs.declared.decode.Decoded.{Decoded}
+use Rattle.image.specs.declared.decode.Decoded.the-variants.{Runs, Empty, Invalid}
+
+-- "A cell is four consecutive words: a head and three arguments", as the code has it,
+abbrev pub instructionOf : Cell → Instruction
+instructionOf c = record { number = c .head; first = c .first; second = c .second; third = c .third }
+
+-- and back.
+abbrev pub cellFrom : Instruction → Cell
+cellFrom i = record { head = i .number; first = i .first; second = i .second; third = i .third }
+
+-- The content of a word of kind 1, 2 or 3 at a place of this form, as `wordFits` of model has it.
+abbrev pub registerFits : (n form index : ℕ) → Bool
+registerFits n form r = cond (between 256 258 r) (eqb (form / 2 % 2) 1) (eqb (form % 2) 1 && ltb r n)
+
+abbrev pub directFits : (b form index : ℕ) → Bool
+directFits b form d = eqb (form / 4 % 2) 1 && ltb d b
+
+abbrev pub numberFits : (m form : ℕ) → ℤ → Bool
+numberFits m form z = eqb (form / 8 % 2) 1 && inRange m z
+
+-- A word at a place with this form; "An absent argument is 0", and has form 0.
+unfoldable pub placeFits : Parameters → (form word : ℕ) → Bool
+placeFits p form w = cond (eqb form 0) (eqb w 0) (wordFits p form w)
+
+-- The three words at the places of packed forms.
+unfoldable pub placesFit : Parameters → (forms first second third : ℕ) → Bool
+placesFit p f x y z = placeFits p (f % 16) x && (placeFits p (f / 16 % 16) y && placeFits p (f / 256) z)
+
+-- An empty cell, an instruction that a text can yield, or neither.
+unfoldable pub decodedOf : Parameters → Cell → Decoded
+decodedOf p c = cond (isEmpty c) Empty (cond (cellFits p c) (Runs (instructionOf c)) Invalid)
