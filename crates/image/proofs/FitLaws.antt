@@ -10,12 +10,12 @@ use borrow.Author.Tests.{ne-eqb, le-leb, lt-leb, leb-true}
 use Rattle.model.specs.declared.Parameters.{Parameters}
 use Rattle.model.specs.Parameters.{between, limit, Fit}
 use Rattle.model.specs.Words.{Cell, kindOf, contentOf, numberOf}
-use Rattle.model.specs.Instructions.{Row, rowOf}
+use Rattle.model.specs.Instructions.{rowOf}
 use Rattle.model.specs.Load.{allows, isWithin}
 use Rattle.model.specs.Images.{wordFits, wordsFit, cellFits}
 use Rattle.model.proofs.Fits.{both, is-between, limits}
 use Rattle.cells.specs.Cells.{IsLimit}
-use Rattle.image.proofs.RowLaws.{row-rule}
+use Rattle.image.proofs.RowLaws.{at-number}
 use Rattle.image.specs.Forms.{packed}
 use Rattle.image.specs.Decode.{registerFits, directFits, numberFits, placeFits, placesFit}
 
@@ -79,9 +79,9 @@ module _ (p : Parameters) (x y z : ℕ) where
 abbrev packable : List ℕ → Bool
 packable fs = leb (length fs) 3 && arePacked fs
 
-rows-packable : (n : ℕ) → packable (rowOf n .forms) ≡ true
+rows-packable : (n : ℕ) → 1 ≤ n → n ≤ 54 → packable (rowOf n .forms) ≡ true
 unfolding rowOf
-rows-packable n = row-rule (λ (r : Row). packable (r .forms)) n refl refl
+rows-packable n l h = at-number (λ (k : ℕ). packable (rowOf k .forms)) 1 54 n refl l (omega arith)
 
 module _ (p : Parameters) (c : Cell) where
   pub cell-low : c .head < 1 → cellFits p c ≡ false
@@ -96,5 +96,5 @@ module _ (p : Parameters) (c : Cell) where
   unfolding cellFits
   cell-between l h =
       let fs = rowOf (c .head) .forms in
-      let k = both (leb (length fs) 3) (arePacked fs) (rows-packable (c .head)) in
+      let k = both (leb (length fs) 3) (arePacked fs) (rows-packable (c .head) l h) in
       rw (le-leb 1 (c .head) l, le-leb (c .head) 54 h) (words-fit p (c .first) (c .second) (c .third) fs (leb-true (length fs) 3 (k .0)) (k .1))

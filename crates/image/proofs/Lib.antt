@@ -1,4 +1,6 @@
 pub mod FitLaws
 pub mod FormLaws
+pub mod ImageLaws
+pub mod PriceLaws
 pub mod RowLaws
 pub mod WordLaws

@@ -1,0 +1,17 @@
+use mathlib.Core.Path.{sym, _∙_}
+use borrow.Author.Tests.{eq-eqb, ne-eqb}
+use borrow.Author.Needs.{needs}
+use Rattle.image.proofs.prices.direct.Statement.{statement}
+use Rattle.image.proofs.prices.direct.Tie as tie
+
+kind-requires : tie.Need-kind-requires
+kind-requires c κs = search needs
+
+returns : tie.Need-returns
+returns c = rw (eq-eqb _ 2 (sym (c .before .kind .ensures) ∙ c .if1 .taken))
+
+returns-2 : tie.Need-returns-2
+returns-2 c = rw (ne-eqb _ 2 (λ e. c .if1 .left (c .before .kind .ensures ∙ e)))
+
+pub direct-spec : {M : Type 1} → statement M
+direct-spec = tie.close (tie.spec kind-requires returns returns-2)

@@ -1,0 +1,34 @@
+use native.Mathlib.Omega.{arith}
+use Rattle.model.specs.Instructions.{directs}
+use Rattle.image.proofs.PriceLaws.{direct-small}
+use borrow.Author.Needs.{needs}
+use Rattle.image.proofs.prices.mode.Statement.{statement}
+use Rattle.image.proofs.prices.mode.Tie as tie
+
+direct-requires : tie.Need-direct-requires
+direct-requires c κs = search needs
+
+direct-requires-2 : tie.Need-direct-requires-2
+direct-requires-2 c κs = search needs
+
+add-result : tie.Need-add-result
+add-result c =
+    let i = c .before .before .args .i in
+    omega (arith, c .before .direct .ensures, c .direct2 .ensures, direct-small (i .first), direct-small (i .second))
+
+direct-requires-3 : tie.Need-direct-requires-3
+direct-requires-3 c κs = search needs
+
+add-result-2 : tie.Need-add-result-2
+add-result-2 c =
+    let i = c .before .before .before .args .i in
+    omega (arith, c .before .before .direct .ensures, c .before .direct2 .ensures, c .direct3 .ensures, direct-small (i .first), direct-small (i .second), direct-small (i .third))
+
+returns : tie.Need-returns
+unfolding directs
+returns c = rw (c .before .before .direct .ensures, c .before .direct2 .ensures, c .direct3 .ensures)
+
+pub mode-spec : {M : Type 1} → statement M
+mode-spec =
+    tie.close
+    (tie.spec direct-requires direct-requires-2 add-result direct-requires-3 add-result-2 returns)

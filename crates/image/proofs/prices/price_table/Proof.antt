@@ -1,0 +1,11 @@
+use mathlib.Core.Path.{refl}
+use Rattle.image.specs.Prices.{priceTable}
+use Rattle.image.proofs.prices.price_table.Statement.{statement}
+use Rattle.image.proofs.prices.price_table.Tie as tie
+
+returns : tie.Need-returns
+unfolding priceTable
+returns c = refl
+
+pub price-table-spec : {M : Type 1} → statement M
+price-table-spec = tie.close (tie.spec returns)
