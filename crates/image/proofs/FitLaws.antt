@@ -1,14 +1,14 @@
 -- The test of a cell's words, as the code makes it. Assumes nothing.
 use Prim.Native.Nat.{ℕ, zero, suc, _+_, _*_, _/_, _%_, _≤_, _<_}
 use mathlib.Core.Path.{_≡_, refl, sym, ap, _∙_}
-use mathlib.Core.Bool.{Bool, true, false, _&&_, and-true}
+use mathlib.Core.Bool.{Bool, true, false, _&&_, and-true, and-false}
 use mathlib.Core.List.{List, [], _∷_}
 use native.Mathlib.Omega.{arith}
-use lib.Dec.{eqb, leb}
+use lib.Dec.{eqb, leb, ltb}
 use lib.ListN.{length}
-use borrow.Author.Tests.{ne-eqb, le-leb, lt-leb, leb-true}
+use borrow.Author.Tests.{ne-eqb, le-leb, lt-leb, leb-true, lt-ltb, le-ltb}
 use Rattle.model.specs.declared.Parameters.{Parameters}
-use Rattle.model.specs.Parameters.{between, limit, Fit}
+use Rattle.model.specs.Parameters.{between, limit, inRange, Fit}
 use Rattle.model.specs.Words.{Cell, kindOf, contentOf, numberOf}
 use Rattle.model.specs.Instructions.{rowOf}
 use Rattle.model.specs.Load.{allows, isWithin}
@@ -17,10 +17,24 @@ use Rattle.model.proofs.Fits.{both, is-between, limits}
 use Rattle.cells.specs.Cells.{IsLimit}
 use Rattle.image.proofs.RowLaws.{at-number}
 use Rattle.image.specs.Forms.{packed}
-use Rattle.image.specs.Decode.{registerFits, directFits, numberFits, placeFits, placesFit}
+use Rattle.image.specs.Decode.{registerFits, placeFits, placesFit}
 
 pub is-limit : (p : Parameters) {m : ℕ} → Fit p → m ≡ limit (p .k) → IsLimit m
 is-limit p f e = let l = limits p f in record { k = p .k; low = l .k-low; high = l .k-high; is = e }
+
+-- A REGISTER
+module _ (n form r : ℕ) (few : n ≤ 256) where
+  pub register-below : r < n → eqb (form % 2) 1 ≡ registerFits n form r
+  register-below h = rw (lt-leb 256 r (omega arith), lt-ltb r n h) (sym (and-true (eqb (form % 2) 1)))
+
+  pub register-missing : n ≤ r → r < 256 → false ≡ registerFits n form r
+  register-missing l h = rw (lt-leb 256 r h, le-ltb r n l) (sym (and-false (eqb (form % 2) 1)))
+
+  pub register-beyond : n ≤ r → 256 ≤ r → 258 < r → false ≡ registerFits n form r
+  register-beyond l k h = rw (le-leb 256 r k, lt-leb r 258 h, le-ltb r n l) (sym (and-false (eqb (form % 2) 1)))
+
+  pub register-special : 256 ≤ r → r ≤ 258 → eqb (form / 2 % 2) 1 ≡ registerFits n form r
+  register-special k h = rw (le-leb 256 r k, le-leb r 258 h)
 
 -- A WORD, by its kind.
 module _ (p : Parameters) (form w : ℕ) where
@@ -28,11 +42,11 @@ module _ (p : Parameters) (form w : ℕ) where
   unfolding wordFits allows isWithin
   register-word e = rw e
 
-  pub direct-word : kindOf w ≡ 2 → wordFits p form w ≡ directFits (p .b) form (contentOf w)
+  pub direct-word : kindOf w ≡ 2 → wordFits p form w ≡ (eqb (form / 4 % 2) 1 && ltb (contentOf w) (p .b))
   unfolding wordFits allows isWithin
   direct-word e = rw e
 
-  pub number-word : kindOf w ≡ 3 → wordFits p form w ≡ numberFits (limit (p .k)) form (numberOf (contentOf w))
+  pub number-word : kindOf w ≡ 3 → wordFits p form w ≡ (eqb (form / 8 % 2) 1 && inRange (limit (p .k)) (numberOf (contentOf w)))
   unfolding wordFits allows isWithin
   number-word e = rw e
 

@@ -33,23 +33,32 @@ pub price-none : (n : ℕ) → 1 ≤ n → n ≤ 54 → getD priceTable (n - 1) 
 unfolding priceTable rowOf
 price-none n l h = eqb-true _ _ (at-number (λ (k : ℕ). eqb (getD priceTable (k - 1) 0) (priceOf k 0)) 1 54 n refl l (omega arith))
 
--- One.
-pub price-one : (n : ℕ) → 5 ≤ n → n ≤ 10 → getD priceTable (n + 49) 0 ≡ priceOf n 1
-unfolding priceTable rowOf
-price-one n l h = eqb-true _ _ (at-number (λ (k : ℕ). eqb (getD priceTable (k + 49) 0) (priceOf k 1)) 5 6 n refl l (omega arith))
+-- One, or two, where the row has such a price.
+abbrev forOne : ℕ → Bool
+forOne n = leb (length (rowOf n .prices)) 1 || eqb (getD priceTable (n + 49) 0) (priceOf n 1)
 
--- Two, where the row has a price for two.
+pub price-one : (n : ℕ) → 1 ≤ n → n ≤ 10 → 1 < length (rowOf n .prices) → getD priceTable (n + 49) 0 ≡ priceOf n 1
+unfolding priceTable rowOf
+price-one n l h less = eqb-true _ _ (rw (lt-leb (length (rowOf n .prices)) 1 less) at (at-number forOne 1 10 n refl l (omega arith)))
+
 abbrev forTwo : ℕ → Bool
 forTwo n = leb (length (rowOf n .prices)) 2 || (eqb (length (rowOf n .prices)) 3 && eqb (getD priceTable 60 0) (priceOf n 2))
 
-pub price-two : (n d : ℕ) → 5 ≤ n → n ≤ 10 → d < length (rowOf n .prices) → 2 ≤ d → getD priceTable 60 0 ≡ priceOf n d
+pub price-two : (n d : ℕ) → 1 ≤ n → n ≤ 10 → d < length (rowOf n .prices) → 2 ≤ d → getD priceTable 60 0 ≡ priceOf n d
 unfolding priceTable rowOf
 price-two n d l h less two =
-    let t : (false || (eqb (length (rowOf n .prices)) 3 && eqb (getD priceTable 60 0) (priceOf n 2))) ≡ true
-    = rw (lt-leb (length (rowOf n .prices)) 2 (omega arith)) at (at-number forTwo 5 6 n refl l (omega arith)) in
+    let t = rw (lt-leb (length (rowOf n .prices)) 2 (omega arith)) at (at-number forTwo 1 10 n refl l (omega arith)) in
     let k = both (eqb (length (rowOf n .prices)) 3) (eqb (getD priceTable 60 0) (priceOf n 2)) t in
     let e : d ≡ 2 = omega (arith, eqb-true (length (rowOf n .prices)) 3 (k .0)) in
     rw e (eqb-true _ _ (k .1))
+
+-- Beyond the first ten there is one price.
+pub price-single : (n d : ℕ) → 11 ≤ n → n ≤ 54 → d < length (rowOf n .prices) → getD priceTable (n - 1) 0 ≡ priceOf n d
+unfolding rowOf
+price-single n d l h less =
+    let one = eqb-true (length (rowOf n .prices)) 1 (at-number (λ (k : ℕ). eqb (length (rowOf k .prices)) 1) 11 44 n refl l (omega arith)) in
+    let e : d ≡ 0 = omega arith in
+    rw e (price-none n (omega arith) h)
 
 -- Prices that are not multiplied, and those that are, by N or by S.
 pub times-one : (p : Parameters) (n : ℕ) → 5 ≤ n → n ≤ 54 → times p (rowOf n .multiplier) ≡ 1
@@ -118,15 +127,6 @@ unfolding rowOf
 price-count n l h =
     eqb-true _ _ (at-number (λ (k : ℕ). eqb (length (rowOf k .prices)) (suc (directForms (rowOf k .forms)))) 1 54 n refl l (omega arith))
 
--- Rows with one price.
-one-price-sized : (n : ℕ) → 1 ≤ n → n ≤ 4 → length (rowOf n .prices) ≡ 1
-unfolding rowOf
-one-price-sized n l h = eqb-true _ _ (at-number (λ (k : ℕ). eqb (length (rowOf k .prices)) 1) 1 4 n refl l (omega arith))
-
-one-price : (n : ℕ) → 11 ≤ n → n ≤ 54 → length (rowOf n .prices) ≡ 1
-unfolding rowOf
-one-price n l h = eqb-true _ _ (at-number (λ (k : ℕ). eqb (length (rowOf k .prices)) 1) 11 44 n refl l (omega arith))
-
 -- THE COST of a cell that fits.
 module _ (p : Parameters) (c : Cell) (fits : cellFits p c ≡ true) where
   pub is-number : (1 ≤ c .head) × (c .head ≤ 54)
@@ -140,19 +140,13 @@ module _ (p : Parameters) (c : Cell) (fits : cellFits p c ≡ true) where
       let k = both (between 1 54 (c .head)) (wordsFit p (rowOf (c .head) .forms) ws) fits in
       omega (arith, directs-allowed p (rowOf (c .head) .forms) ws (k .1), price-count (c .head) (is-number .0) (is-number .1))
 
-  directs-none : length (rowOf (c .head) .prices) ≡ 1 → directs c ≡ 0
-  directs-none h = omega (arith, directs-priced)
+  module _ {price : ℕ} (e : price ≡ priceOf (c .head) (directs c)) where
+    pub cost-multiplied : {t : ℕ} → times p (rowOf (c .head) .multiplier) ≡ t → price * t ≡ costOf p c
+    unfolding costOf
+    cost-multiplied h = rw (e, h)
 
-  pub cost-sized : c .head ≤ 4 → costOf p c ≡ priceOf (c .head) 0 * times p (rowOf (c .head) .multiplier)
-  unfolding costOf
-  cost-sized h = rw (directs-none (one-price-sized (c .head) (is-number .0) h))
-
-  pub cost-unsized : 5 ≤ c .head → costOf p c ≡ priceOf (c .head) (directs c)
-  unfolding costOf
-  cost-unsized l = rw (times-one p (c .head) l (is-number .1)) (mul-one _)
-
-  pub cost-undirected : 11 ≤ c .head → costOf p c ≡ priceOf (c .head) 0
-  cost-undirected l = cost-unsized (omega arith) ∙ ap (priceOf (c .head)) (directs-none (one-price (c .head) l (is-number .1)))
+    pub cost-single : 5 ≤ c .head → price ≡ costOf p c
+    cost-single l = sym (mul-one price) ∙ cost-multiplied (times-one p (c .head) l (is-number .1))
 
 -- VALUES
 pub values-none : (p : Parameters) (n : ℕ) → ¬ (n ≡ 3) → ¬ (n ≡ 4) → ¬ (n ≡ 6) → valueCount p (rowOf n .operation) ≡ 0

@@ -2,9 +2,8 @@
 use Prim.Native.Nat.{ℕ, _/_, _%_}
 use mathlib.Core.Bool.{Bool, _&&_, cond}
 use lib.Dec.{eqb, ltb}
-use lib.IntN.{ℤ}
 use Rattle.model.specs.declared.Parameters.{Parameters}
-use Rattle.model.specs.Parameters.{between, inRange}
+use Rattle.model.specs.Parameters.{between}
 use Rattle.model.specs.Words.{Cell, isEmpty}
 use Rattle.model.specs.Images.{wordFits, cellFits}
 use Rattle.image.specs.declared.decode.Instruction.{Instruction}
@@ -19,15 +18,9 @@ instructionOf c = record { number = c .head; first = c .first; second = c .secon
 abbrev pub cellFrom : Instruction → Cell
 cellFrom i = record { head = i .number; first = i .first; second = i .second; third = i .third }
 
--- The content of a word of kind 1, 2 or 3 at a place of this form, as `wordFits` of model has it.
+-- A word of kind 1 at a place of this form, by its content, as `wordFits` of model has it.
 abbrev pub registerFits : (n form index : ℕ) → Bool
 registerFits n form r = cond (between 256 258 r) (eqb (form / 2 % 2) 1) (eqb (form % 2) 1 && ltb r n)
-
-abbrev pub directFits : (b form index : ℕ) → Bool
-directFits b form d = eqb (form / 4 % 2) 1 && ltb d b
-
-abbrev pub numberFits : (m form : ℕ) → ℤ → Bool
-numberFits m form z = eqb (form / 8 % 2) 1 && inRange m z
 
 -- A word at a place with this form; "An absent argument is 0", and has form 0.
 unfoldable pub placeFits : Parameters → (form word : ℕ) → Bool

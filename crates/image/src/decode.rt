@@ -1,12 +1,12 @@
 // A cell of an image taken apart, and whether a text can yield it.
 ghost use mathlib.Core.Path.{_≡_};
+ghost use Prim.Native.Nat.{_≤_};
 ghost use lib.ListN.{length};
-ghost use Rattle.model.specs.Parameters.{limit, between, Fit};
+ghost use Rattle.model.specs.Parameters.{limit, Fit};
 ghost use Rattle.model.specs.Words.{cellOf, isEmpty};
 ghost use Rattle.model.specs.Images.{wordFits, cellFits};
-ghost use Rattle.cells.specs.Cells.{IsLimit};
 ghost use Rattle.image.specs.Forms.{formTable};
-ghost use Rattle.image.specs.Decode.{instructionOf, cellFrom, registerFits, directFits, numberFits, placeFits, placesFit, decodedOf};
+ghost use Rattle.image.specs.Decode.{instructionOf, cellFrom, registerFits, placeFits, placesFit, decodedOf};
 use crate::forms::forms_of;
 use crate::words::content;
 use crate::words::kind;
@@ -42,48 +42,21 @@ pub fn read_cell(cell: &[u32]) -> Instruction
     }
 }
 
-// A special register's number: IAR 256, IRCR 257, SHR 258.
-fn is_special(index: u32) -> bool
-    ensures { λ r. ⌜ r ≡ between 256 258 index ⌝ }
-{
-    if 256 <= index {
-        return index <= 258;
-    }
-    false
-}
-
-// A register at a place of this form.
+// A register at a place of this form: R0 to R(N-1), or one of the special registers 256 to 258.
 fn register_fits(n: u32, form: u32, index: u32) -> bool
+    requires { ⌜ n ≤ 256 ⌝ }
     ensures { λ r. ⌜ r ≡ registerFits n form index ⌝ }
 {
-    if is_special(index) {
-        return form / 2 % 2 == 1;
+    if index < n {
+        return form % 2 == 1;
     }
-    if form % 2 == 1 {
-        return index < n;
+    if index < 256 {
+        return false;
     }
-    false
-}
-
-// A direct cell.
-fn direct_fits(b: u32, form: u32, index: u32) -> bool
-    ensures { λ r. ⌜ r ≡ directFits b form index ⌝ }
-{
-    if form / 4 % 2 == 1 {
-        return index < b;
+    if 258 < index {
+        return false;
     }
-    false
-}
-
-// A number.
-fn number_fits(m: u32, form: u32, z: i32) -> bool
-    requires { ⌜ IsLimit m ⌝ }
-    ensures { λ r. ⌜ r ≡ numberFits m form z ⌝ }
-{
-    if form / 8 % 2 == 1 {
-        return in_range(m, z);
-    }
-    false
+    form / 2 % 2 == 1
 }
 
 // A word at a place of this form.
@@ -95,8 +68,8 @@ fn word_fits(p: Parameters, m: u32, form: u32, w: u32) -> bool
     let k = kind(w);
     match k {
         1 => register_fits(p.n, form, content(w)),
-        2 => direct_fits(p.b, form, content(w)),
-        3 => number_fits(m, form, number(w)),
+        2 => form / 4 % 2 == 1 && content(w) < p.b,
+        3 => form / 8 % 2 == 1 && in_range(m, number(w)),
         _ => false,
     }
 }

@@ -1,9 +1,9 @@
 // The prices of the instructions, as a table that a call makes once and lends, and the values that they write.
 ghost use mathlib.Core.Path.{_≡_};
 ghost use mathlib.Core.Bool.{true};
-ghost use Prim.Native.Nat.{_*_, _≤_, _<_};
+ghost use Prim.Native.Nat.{_≤_, _<_};
 ghost use lib.ListN.{length, getD};
-ghost use Rattle.model.specs.Instructions.{rowOf, directs, times, costOf};
+ghost use Rattle.model.specs.Instructions.{rowOf, directs, costOf};
 ghost use Rattle.model.specs.Images.{cellFits};
 ghost use Rattle.image.specs.Decode.{cellFrom};
 ghost use Rattle.image.specs.Prices.{priceTable, priceOf, isDirect, valueCount};
@@ -94,65 +94,49 @@ fn direct(w: u32) -> u32
 }
 
 // How many arguments are direct cells.
-fn mode(i: Instruction) -> u32
+fn direct_arguments(i: Instruction) -> u32
     ensures { λ r. ⌜ r ≡ directs (cellFrom i) ⌝ }
 {
     direct(i.first) + direct(i.second) + direct(i.third)
 }
 
-// A price of the table.
-fn price_at(prices: &[u32], at: usize) -> u64
-    requires { ⌜ now prices ≡ priceTable ⌝ }
-    requires { ⌜ at < 61 ⌝ }
-    ensures { λ r. ⌜ r ≡ getD priceTable at 0 ⌝ }
-    ensures small { λ r. ⌜ r < 4294967296 ⌝ }
-{
-    prices[at] as u64
-}
-
-// The place in the table of a price for so many direct arguments.
-fn price_place(number: u32, directs: u32) -> usize
-    requires { ⌜ (5 ≤ number) × (number ≤ 10) ⌝ }
-    requires { ⌜ directs < length (rowOf number .prices) ⌝ }
-    ensures { λ r. ⌜ getD priceTable r 0 ≡ priceOf number directs ⌝ }
+// The place in the table of an instruction's price. Beyond the first ten none has a direct argument.
+fn price_place(i: Instruction) -> usize
+    requires { ⌜ (1 ≤ i .number) × (i .number ≤ 54) ⌝ }
+    requires { ⌜ directs (cellFrom i) < length (rowOf (i .number) .prices) ⌝ }
+    ensures { λ r. ⌜ getD priceTable r 0 ≡ priceOf (i .number) (directs (cellFrom i)) ⌝ }
     ensures within { λ r. ⌜ r < 61 ⌝ }
 {
-    if directs == 0 {
+    let number = i.number;
+    if 10 < number {
         return (number - 1) as usize;
     }
-    if directs == 1 {
+    let mode = direct_arguments(i);
+    if mode == 0 {
+        return (number - 1) as usize;
+    }
+    if mode == 1 {
         return (number + 49) as usize;
     }
     60
 }
 
-// The cost of one of the first four: its price times N, S, N or S.
-fn sized_cost(number: u32, p: Parameters, prices: &[u32]) -> u64
-    requires { ⌜ now prices ≡ priceTable ⌝ }
-    requires { ⌜ (1 ≤ number) × (number ≤ 4) ⌝ }
-    ensures { λ r. ⌜ r ≡ priceOf number 0 * times p (rowOf number .multiplier) ⌝ }
-{
-    let price = price_at(prices, (number - 1) as usize);
-    if number % 2 == 1 {
-        return price * (p.n as u64);
-    }
-    price * (p.s as u64)
-}
-
-// The cost of an instruction. Beyond the first ten none has a direct argument.
+// The cost of an instruction: its price, for the first four times N, S, N or S.
 pub fn cost(i: Instruction, p: Parameters, prices: &[u32]) -> u64
     requires { ⌜ now prices ≡ priceTable ⌝ }
     requires { ⌜ cellFits p (cellFrom i) ≡ true ⌝ }
     ensures { λ r. ⌜ r ≡ costOf p (cellFrom i) ⌝ }
 {
+    let at = price_place(i);
+    let price = prices[at] as u64;
     let number = i.number;
-    if 10 < number {
-        return price_at(prices, (number - 1) as usize);
+    if 4 < number {
+        return price;
     }
-    if number < 5 {
-        return sized_cost(number, p, prices);
+    if number % 2 == 1 {
+        return price * (p.n as u64);
     }
-    price_at(prices, price_place(number, mode(i)))
+    price * (p.s as u64)
 }
 
 // How many values an instruction writes.

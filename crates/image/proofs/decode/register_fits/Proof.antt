@@ -1,20 +1,26 @@
-use mathlib.Core.Path.{sym, _∙_}
-use borrow.Author.Tests.{eq-eqb, ne-eqb}
-use borrow.Author.Needs.{needs}
+use Rattle.image.proofs.FitLaws.{register-below, register-missing, register-beyond, register-special}
 use Rattle.image.proofs.decode.register_fits.Statement.{statement}
 use Rattle.image.proofs.decode.register_fits.Tie as tie
 
-is-special-requires : tie.Need-is-special-requires
-is-special-requires c κs = search needs
-
 returns : tie.Need-returns
-returns c = rw (sym (c .before .is-special .ensures) ∙ c .if1 .taken)
+returns c =
+    let start = c .before in
+    register-below (start .args .n) (start .args .form) (start .args .index) (start .pre) (c .if1 .taken)
 
 returns-2 : tie.Need-returns-2
-returns-2 c = rw (sym (c .before .before .is-special .ensures) ∙ c .before .if1 .left, eq-eqb _ _ (c .if2 .taken))
+returns-2 c =
+    let start = c .before .before in
+    register-missing (start .args .n) (start .args .form) (start .args .index) (start .pre) (c .before .if1 .left) (c .if2 .taken)
 
 returns-3 : tie.Need-returns-3
-returns-3 c = rw (sym (c .before .before .is-special .ensures) ∙ c .before .if1 .left, ne-eqb _ _ (c .if2 .left))
+returns-3 c =
+    let start = c .before .before .before in
+    register-beyond (start .args .n) (start .args .form) (start .args .index) (start .pre) (c .before .before .if1 .left) (c .before .if2 .left) (c .if3 .taken)
+
+returns-4 : tie.Need-returns-4
+returns-4 c =
+    let start = c .before .before .before in
+    register-special (start .args .n) (start .args .form) (start .args .index) (start .pre) (c .before .if2 .left) (c .if3 .left)
 
 pub register-fits-spec : {M : Type 1} → statement M
-register-fits-spec = tie.close (tie.spec is-special-requires returns returns-2 returns-3)
+register-fits-spec = tie.close (tie.spec returns returns-2 returns-3 returns-4)

@@ -1,67 +1,77 @@
-use mathlib.Core.Path.{sym, ap, _∙_}
+use Prim.Native.Nat.{_^_, _<_}
+use mathlib.Core.Path.{_≡_}
 use native.Mathlib.Omega.{arith}
-use borrow.Author.Needs.{needs}
+use denote.Ref.{now}
+use lib.ListN.{getD}
+use Rattle.model.specs.Instructions.{directs}
 use Rattle.image.specs.Decode.{cellFrom}
 use Rattle.image.specs.Prices.{priceOf}
-use Rattle.image.proofs.PriceLaws.{is-number, directs-priced, price-none, cost-sized, cost-unsized, cost-undirected}
+use Rattle.image.proofs.PriceLaws.{prices-length, product-fits, times-registers, times-cells, is-number, directs-priced, cost-multiplied, cost-single}
+use borrow.Author.Needs.{needs}
 use Rattle.image.proofs.prices.cost.Statement.{statement}
 use Rattle.image.proofs.prices.cost.Tie as tie
 
-sub-price-at : tie.Need-sub-price-at
-sub-price-at c = search needs
+-- The word that was read, and the price that it is.
+bound : (c : tie.After-shared-slice-known2) → getD (now (c .before .before .before .args .prices)) (c .before .price-place .result) 0 < 2 ^ 32
+bound c = c .shared-slice-known2 .given (c .before .price-place .result) .fits
 
-cast-price-at : tie.Need-cast-price-at
-cast-price-at c = search needs
-
-price-at-requires : tie.Need-price-at-requires
-price-at-requires c κs =
-    let start = c .before .before in
-    (start .pre .0, omega (arith, is-number (start .args .p) (cellFrom (start .args .i)) (start .pre .1)))
-
-returns : tie.Need-returns
-returns c =
-    let start = c .before .before .before in
-    let n = is-number (start .args .p) (cellFrom (start .args .i)) (start .pre .1) in
-    c .price-at .ensures .0 ∙ price-none (start .args .i .number) (n .0) (n .1) ∙ sym (cost-undirected (start .args .p) (cellFrom (start .args .i)) (start .pre .1) (c .before .if1 .taken))
-
-sized-cost-requires : tie.Need-sized-cost-requires
-sized-cost-requires c κs =
-    let start = c .before .before .before in
-    (start .pre .0, (is-number (start .args .p) (cellFrom (start .args .i)) (start .pre .1) .0, omega arith))
-
-returns-2 : tie.Need-returns-2
-returns-2 c =
-    let start = c .before .before .before .before in
-    c .sized-cost .ensures ∙ sym (cost-sized (start .args .p) (cellFrom (start .args .i)) (start .pre .1) (omega arith))
-
-mode-requires : tie.Need-mode-requires
-mode-requires c κs = search needs
+price : (c : tie.After-shared-slice-known2) → getD (now (c .before .before .before .args .prices)) (c .before .price-place .result) 0 ≡ priceOf (c .before .before .before .args .i .number) (directs (cellFrom (c .before .before .before .args .i)))
+price c = rw (c .before .before .before .pre .0) (c .before .price-place .ensures .0)
 
 price-place-requires : tie.Need-price-place-requires
 price-place-requires c κs =
-    let start = c .before .before .before .before in
-    ((omega arith, omega arith), rw (c .mode .ensures) (directs-priced (start .args .p) (cellFrom (start .args .i)) (start .pre .1)))
+    let start = c .before in
+    let cell = cellFrom (start .args .i) in
+    (is-number (start .args .p) cell (start .pre .1), directs-priced (start .args .p) cell (start .pre .1))
 
-price-at-requires-2 : tie.Need-price-at-requires-2
-price-at-requires-2 c κs = search needs
+mul-price : tie.Need-mul-price
+mul-price c = search needs
+
+shared-slice-read-price : tie.Need-shared-slice-read-price
+shared-slice-read-price c = rw (c .before .before .before .pre .0, prices-length) (c .before .price-place .ensures .1)
+
+cast-price : tie.Need-cast-price
+cast-price c = omega (arith, bound c)
+
+returns : tie.Need-returns
+returns c =
+    let start = c .before .before .before .before in
+    cost-single (start .args .p) (cellFrom (start .args .i)) (start .pre .1) (price (c .before)) (c .if1 .taken)
+
+cast-result : tie.Need-cast-result
+cast-result c = search needs
+
+mul-result : tie.Need-mul-result
+mul-result c = product-fits (bound (c .before .before .before)) (omega (arith, c .struct-known .given))
+
+returns-2 : tie.Need-returns-2
+returns-2 c =
+    let start = c .before .before .before .before .before .before in
+    cost-multiplied (start .args .p) (cellFrom (start .args .i)) (start .pre .1) (price (c .before .before .before)) (times-registers (start .args .p) (start .args .i .number) (c .before .before .if1 .left) (c .before .if2 .taken))
+
+cast-result-2 : tie.Need-cast-result-2
+cast-result-2 c = search needs
+
+mul-result-2 : tie.Need-mul-result-2
+mul-result-2 c = product-fits (bound (c .before .before .before)) (omega (arith, c .struct-known2 .given))
 
 returns-3 : tie.Need-returns-3
 returns-3 c =
     let start = c .before .before .before .before .before .before in
-    c .price-at2 .ensures .0 ∙ c .before .price-place .ensures .0 ∙ ap (priceOf (start .args .i .number)) (c .before .before .mode .ensures)
-    ∙ sym (cost-unsized (start .args .p) (cellFrom (start .args .i)) (start .pre .1) (omega arith))
+    cost-multiplied (start .args .p) (cellFrom (start .args .i)) (start .pre .1) (price (c .before .before .before)) (times-cells (start .args .p) (start .args .i .number) (is-number (start .args .p) (cellFrom (start .args .i)) (start .pre .1) .0) (c .before .before .if1 .left) (c .before .if2 .left))
 
 pub cost-spec : {M : Type 1} → statement M
 cost-spec =
     tie.close
     (tie.spec
-    sub-price-at
-    cast-price-at
-    price-at-requires
-    returns
-    sized-cost-requires
-    returns-2
-    mode-requires
     price-place-requires
-    price-at-requires-2
+    mul-price
+    shared-slice-read-price
+    cast-price
+    returns
+    cast-result
+    mul-result
+    returns-2
+    cast-result-2
+    mul-result-2
     returns-3)

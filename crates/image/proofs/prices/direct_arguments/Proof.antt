@@ -2,8 +2,8 @@ use native.Mathlib.Omega.{arith}
 use Rattle.model.specs.Instructions.{directs}
 use Rattle.image.proofs.PriceLaws.{direct-small}
 use borrow.Author.Needs.{needs}
-use Rattle.image.proofs.prices.mode.Statement.{statement}
-use Rattle.image.proofs.prices.mode.Tie as tie
+use Rattle.image.proofs.prices.direct_arguments.Statement.{statement}
+use Rattle.image.proofs.prices.direct_arguments.Tie as tie
 
 direct-requires : tie.Need-direct-requires
 direct-requires c κs = search needs
@@ -28,7 +28,7 @@ returns : tie.Need-returns
 unfolding directs
 returns c = rw (c .before .before .direct .ensures, c .before .direct2 .ensures, c .direct3 .ensures)
 
-pub mode-spec : {M : Type 1} → statement M
-mode-spec =
+pub direct-arguments-spec : {M : Type 1} → statement M
+direct-arguments-spec =
     tie.close
     (tie.spec direct-requires direct-requires-2 add-result direct-requires-3 add-result-2 returns)
