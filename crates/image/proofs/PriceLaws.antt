@@ -7,7 +7,6 @@ use native.Mathlib.Decide.{decLt}
 use native.Mathlib.Nat.{mul-one, mul-le-mul, lt-of-le-of-lt}
 use native.Mathlib.Omega.{arith}
 use lib.Dec.{eqb, leb}
-use lib.IntN.{ℤ}
 use lib.ListN.{length, getD, List·getD-eq-default}
 use borrow.Author.Tests.{eqb-true, ne-eqb, lt-leb}
 use mir.Syntax.{w64}
@@ -51,14 +50,6 @@ price-two n d l h less two =
     let k = both (eqb (length (rowOf n .prices)) 3) (eqb (getD priceTable 60 0) (priceOf n 2)) t in
     let e : d ≡ 2 = omega (arith, eqb-true (length (rowOf n .prices)) 3 (k .0)) in
     rw e (eqb-true _ _ (k .1))
-
--- Beyond the first ten there is one price.
-pub price-single : (n d : ℕ) → 11 ≤ n → n ≤ 54 → d < length (rowOf n .prices) → getD priceTable (n - 1) 0 ≡ priceOf n d
-unfolding rowOf
-price-single n d l h less =
-    let one = eqb-true (length (rowOf n .prices)) 1 (at-number (λ (k : ℕ). eqb (length (rowOf k .prices)) 1) 11 44 n refl l (omega arith)) in
-    let e : d ≡ 0 = omega arith in
-    rw e (price-none n (omega arith) h)
 
 -- Prices that are not multiplied, and those that are, by N or by S.
 pub times-one : (p : Parameters) (n : ℕ) → 5 ≤ n → n ≤ 54 → times p (rowOf n .multiplier) ≡ 1
@@ -127,6 +118,10 @@ unfolding rowOf
 price-count n l h =
     eqb-true _ _ (at-number (λ (k : ℕ). eqb (length (rowOf k .prices)) (suc (directForms (rowOf k .forms)))) 1 54 n refl l (omega arith))
 
+one-price : (n : ℕ) → 11 ≤ n → n ≤ 54 → length (rowOf n .prices) ≡ 1
+unfolding rowOf
+one-price n l h = eqb-true _ _ (at-number (λ (k : ℕ). eqb (length (rowOf k .prices)) 1) 11 44 n refl l (omega arith))
+
 -- THE COST of a cell that fits.
 module _ (p : Parameters) (c : Cell) (fits : cellFits p c ≡ true) where
   pub is-number : (1 ≤ c .head) × (c .head ≤ 54)
@@ -147,6 +142,12 @@ module _ (p : Parameters) (c : Cell) (fits : cellFits p c ≡ true) where
 
     pub cost-single : 5 ≤ c .head → price ≡ costOf p c
     cost-single l = sym (mul-one price) ∙ cost-multiplied (times-one p (c .head) l (is-number .1))
+
+  -- Beyond the first ten there is one price.
+  pub cost-undirected : 11 ≤ c .head → getD priceTable (c .head - 1) 0 ≡ costOf p c
+  cost-undirected l =
+      let e : directs c ≡ 0 = omega (arith, one-price (c .head) l (is-number .1), directs-priced) in
+      cost-single (rw e (price-none (c .head) (is-number .0) (is-number .1))) (omega arith)
 
 -- VALUES
 pub values-none : (p : Parameters) (n : ℕ) → ¬ (n ≡ 3) → ¬ (n ≡ 4) → ¬ (n ≡ 6) → valueCount p (rowOf n .operation) ≡ 0

@@ -100,36 +100,36 @@ fn direct_arguments(i: Instruction) -> u32
     direct(i.first) + direct(i.second) + direct(i.third)
 }
 
-// The place in the table of an instruction's price. Beyond the first ten none has a direct argument.
+// The place in the table of the price of one of the first ten.
 fn price_place(i: Instruction) -> usize
-    requires { ⌜ (1 ≤ i .number) × (i .number ≤ 54) ⌝ }
+    requires { ⌜ (1 ≤ i .number) × (i .number ≤ 10) ⌝ }
     requires { ⌜ directs (cellFrom i) < length (rowOf (i .number) .prices) ⌝ }
     ensures { λ r. ⌜ getD priceTable r 0 ≡ priceOf (i .number) (directs (cellFrom i)) ⌝ }
     ensures within { λ r. ⌜ r < 61 ⌝ }
 {
-    let number = i.number;
-    if 10 < number {
-        return (number - 1) as usize;
-    }
     let mode = direct_arguments(i);
     if mode == 0 {
-        return (number - 1) as usize;
+        return (i.number - 1) as usize;
     }
     if mode == 1 {
-        return (number + 49) as usize;
+        return (i.number + 49) as usize;
     }
     60
 }
 
-// The cost of an instruction: its price, for the first four times N, S, N or S.
+// The cost of an instruction. Beyond the first ten none has a direct argument; prices of the first four are times N, S, N and S.
 pub fn cost(i: Instruction, p: Parameters, prices: &[u32]) -> u64
     requires { ⌜ now prices ≡ priceTable ⌝ }
     requires { ⌜ cellFits p (cellFrom i) ≡ true ⌝ }
     ensures { λ r. ⌜ r ≡ costOf p (cellFrom i) ⌝ }
 {
+    let number = i.number;
+    if 10 < number {
+        let at = (number - 1) as usize;
+        return prices[at] as u64;
+    }
     let at = price_place(i);
     let price = prices[at] as u64;
-    let number = i.number;
     if 4 < number {
         return price;
     }

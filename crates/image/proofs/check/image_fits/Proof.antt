@@ -1,21 +1,14 @@
+-- `check::image_fits` meets its contract. Assumes nothing.
 use Prim.Native.Nat.{_-_, _*_, _%_, _≤_}
 use mathlib.Core.Path.{_≡_, refl, sym, _∙_}
 use native.Mathlib.Omega.{arith}
 use borrow.Author.Needs.{needs}
 use denote.Ref.{now}
-use lib.ListN.{length, drop}
-use Rattle.model.specs.Parameters.{limit}
 use Rattle.model.specs.Images.{imageFits}
 use Rattle.model.proofs.Fits.{limits}
 use Rattle.image.proofs.ImageLaws.{cellsFrom, cells-start, cells-end, part-length, cell-runs, cell-empty, cell-invalid}
 use Rattle.image.proofs.check.image_fits.Statement.{statement}
 use Rattle.image.proofs.check.image_fits.Tie as tie
-use Rattle.image.proofs.check.image_fits.Reads as reads
-use Rattle.image.proofs.check.image_fits.Lts as lts
-use Rattle.cells.proofs.limits.limit_of.Reads as limit-of-reads
-use Rattle.image.proofs.check.all_zero.Reads as all-zero-reads
-use Rattle.image.proofs.decode.decode.Reads as decode-reads
-use Rattle.image.proofs.forms.form_table.Reads as form-table-reads
 
 abbrev Inv-loop : tie.InvT-loop
 Inv-loop p image m forms end at₀ at =

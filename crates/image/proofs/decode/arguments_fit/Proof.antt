@@ -1,3 +1,4 @@
+-- `decode::arguments_fit` meets its contract. Assumes nothing.
 use mathlib.Core.Path.{sym, _∙_}
 use borrow.Author.Tests.{not-true, not-false}
 use Rattle.image.specs.Decode.{placesFit}

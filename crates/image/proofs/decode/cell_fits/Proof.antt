@@ -1,3 +1,4 @@
+-- `decode::cell_fits` meets its contract. Assumes nothing.
 use mathlib.Core.Path.{sym, _∙_}
 use borrow.Author.Needs.{needs}
 use Rattle.image.specs.Decode.{cellFrom}

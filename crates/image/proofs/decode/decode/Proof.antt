@@ -1,3 +1,4 @@
+-- `decode::decode` meets its contract. Assumes nothing.
 use mathlib.Core.Path.{sym, _∙_}
 use borrow.Author.Needs.{needs}
 use Rattle.image.specs.Decode.{decodedOf}

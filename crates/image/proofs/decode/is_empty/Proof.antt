@@ -1,3 +1,4 @@
+-- `decode::is_empty` meets its contract. Assumes nothing.
 use borrow.Author.Tests.{eq-eqb, ne-eqb}
 use Rattle.image.proofs.decode.is_empty.Statement.{statement}
 use Rattle.image.proofs.decode.is_empty.Tie as tie

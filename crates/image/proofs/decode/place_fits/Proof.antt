@@ -1,3 +1,4 @@
+-- `decode::place_fits` meets its contract. Assumes nothing.
 use borrow.Author.Tests.{eq-eqb, ne-eqb}
 use Rattle.image.specs.Decode.{placeFits}
 use borrow.Author.Needs.{needs}

@@ -1,3 +1,4 @@
+-- `decode::register_fits` meets its contract. Assumes nothing.
 use Rattle.image.proofs.FitLaws.{register-below, register-missing, register-beyond, register-special}
 use Rattle.image.proofs.decode.register_fits.Statement.{statement}
 use Rattle.image.proofs.decode.register_fits.Tie as tie

@@ -1,9 +1,9 @@
+-- `forms::form_table` meets its contract. Assumes nothing.
 use mathlib.Core.Path.{refl}
 use Rattle.image.specs.Forms.{packed, formTable}
 use Rattle.image.proofs.forms.form_table.Statement.{statement}
 use Rattle.image.proofs.forms.form_table.Tie as tie
 
--- src/forms.rt:66:1
 returns : tie.Need-returns
 unfolding formTable packed
 returns c = refl

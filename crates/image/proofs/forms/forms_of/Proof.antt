@@ -1,26 +1,22 @@
+-- `forms::forms_of` meets its contract. Assumes nothing.
 use native.Mathlib.Omega.{arith}
 use Rattle.image.proofs.FormLaws.{table-length, table-entry}
 use borrow.Author.Needs.{needs}
 use Rattle.image.proofs.forms.forms_of.Statement.{statement}
 use Rattle.image.proofs.forms.forms_of.Tie as tie
 
--- src/forms.rt:77:14
 sub-i : tie.Need-sub-i
 sub-i c = search needs
 
--- src/forms.rt:77:13
 cast-i : tie.Need-cast-i
 cast-i c = search needs
 
--- src/forms.rt:78:5
 mul-result : tie.Need-mul-result
 mul-result c = search needs
 
--- src/forms.rt:78:5
 shared-slice-read-result : tie.Need-shared-slice-read-result
 shared-slice-read-result c = rw (c .before .pre .0) (rw table-length (omega arith))
 
--- src/forms.rt:73:1
 returns : tie.Need-returns
 returns c = rw (c .before .pre .0) (table-entry (c .before .args .number))
 

@@ -1,3 +1,4 @@
+-- `prices::direct_arguments` meets its contract. Assumes nothing.
 use native.Mathlib.Omega.{arith}
 use Rattle.model.specs.Instructions.{directs}
 use Rattle.image.proofs.PriceLaws.{direct-small}

@@ -1,3 +1,4 @@
+-- `prices::price_table` meets its contract. Assumes nothing.
 use mathlib.Core.Path.{refl}
 use Rattle.image.specs.Prices.{priceTable}
 use Rattle.image.proofs.prices.price_table.Statement.{statement}

@@ -1,4 +1,5 @@
-use mathlib.Core.Path.{refl, sym}
+-- `prices::value_count` meets its contract. Assumes nothing.
+use mathlib.Core.Path.{sym}
 use Rattle.model.specs.Instructions.{rowOf}
 use Rattle.image.proofs.PriceLaws.{values-none}
 use borrow.Author.Needs.{needs}

@@ -1,3 +1,4 @@
+-- `words::number` meets its contract. Assumes nothing.
 use Prim.Native.Nat.{_<_, _^_}
 use native.Mathlib.Omega.{arith}
 use borrow.Author.Needs.{needs}
