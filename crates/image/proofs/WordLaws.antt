@@ -35,5 +35,5 @@ number-mag v h = go (ltb v (2 ^ 29)) refl
     go true e = ltb-true v (2 ^ 29) e
     go false e = let l = ltb-false v (2 ^ 29) e in omega arith
 
-pub number-fits : (v : ℕ) → v < 2 ^ 30 → SFits w32 (numberOf v)
-number-fits v h = record { sfits = omega (arith, number-mag v h) }
+pub number-fits : (v : ℕ) → v < 2 ^ 30 → SFits w32 (toZ w32 (raised v) -ℤ pos (2 ^ 29))
+number-fits v h = rw (number-read v h) (record { sfits = omega (arith, number-mag v h) })

@@ -1,4 +1,5 @@
 -- `decode::register_fits` meets its contract. Assumes nothing.
+use native.Mathlib.Omega.{arith}
 use Rattle.image.proofs.FitLaws.{register-below, register-missing, register-beyond, register-special}
 use Rattle.image.proofs.decode.register_fits.Statement.{statement}
 use Rattle.image.proofs.decode.register_fits.Tie as tie
@@ -6,7 +7,7 @@ use Rattle.image.proofs.decode.register_fits.Tie as tie
 returns : tie.Need-returns
 returns c =
     let start = c .before in
-    register-below (start .args .n) (start .args .form) (start .args .index) (start .pre) (c .if1 .taken)
+    register-below (start .args .n) (start .args .form) (start .args .index) (start .pre) (omega arith)
 
 returns-2 : tie.Need-returns-2
 returns-2 c =
