@@ -55,7 +55,7 @@ module _ (p : Parameters) (form w : ℕ) where
   other-word a b d = rw (ne-eqb (kindOf w) 1 a, ne-eqb (kindOf w) 2 b, ne-eqb (kindOf w) 3 d)
 
 -- THE PLACES. Forms that a packed number can hold: at most three, and none 0.
-abbrev pub arePacked : List ℕ → Bool
+abbrev arePacked : List ℕ → Bool
 arePacked [] = true
 arePacked (f ∷ fs) = between 1 15 f && arePacked fs
 
@@ -69,7 +69,7 @@ module _ (p : Parameters) (x y z : ℕ) where
   unfolding placesFit
   unpacked n a b c e g h = rw (e, g, h)
 
-  pub words-fit : (fs : List ℕ) → length fs ≤ 3 → arePacked fs ≡ true → wordsFit p fs (x ∷ y ∷ z ∷ []) ≡ placesFit p (packed fs) x y z
+  words-fit : (fs : List ℕ) → length fs ≤ 3 → arePacked fs ≡ true → wordsFit p fs (x ∷ y ∷ z ∷ []) ≡ placesFit p (packed fs) x y z
   unfolding wordsFit packed placeFits
   words-fit [] l h = sym (unpacked 0 0 0 0 refl refl refl ∙ rw (and-true (eqb z 0)))
   words-fit (f ∷ []) l h =

@@ -31,7 +31,7 @@ module _ (ws : List ℕ) (i : ℕ) (inside : i < length ws) where
   zero-not e = rw (drop-cons ws i 0) (simp (allZero, ne-eqb _ _ e))
 
 -- CELLS. What is left to test behind a cell that was decoded.
-abbrev pub behind : Parameters → (t : ℕ) (ws : List ℕ) → Decoded → Bool
+abbrev behind : Parameters → (t : ℕ) (ws : List ℕ) → Decoded → Bool
 behind p t ws (Runs i) = cellsFit p t (drop 4 ws)
 behind p t ws Empty = allZero ws
 behind p t ws Invalid = false
@@ -71,14 +71,14 @@ module _ (p : Parameters) (image : List ℕ) (at : ℕ) (more : at < 4 * p .t) (
   part-length h = length-take-le (at + 4 - at) (drop at image) (omega (arith, length-drop at image)) ∙ omega arith
 
   module _ {d : Decoded} (e : d ≡ decodedOf p (cellOf (take (at + 4 - at) (drop at image)))) where
-    told : cellsFrom p image at ≡ behind p (p .t - (at + 4) / 4) (drop at image) d
-    told = next-cell ∙ ap (behind p (p .t - (at + 4) / 4) (drop at image)) (sym e)
+    told : {x : Decoded} → d ≡ x → cellsFrom p image at ≡ behind p (p .t - (at + 4) / 4) (drop at image) x
+    told h = next-cell ∙ ap (behind p (p .t - (at + 4) / 4) (drop at image)) (sym e ∙ h)
 
     pub cell-runs : {i : Instruction} → d ≡ Runs i → cellsFrom p image at ≡ cellsFrom p image (at + 4)
-    cell-runs h = told ∙ ap (behind p (p .t - (at + 4) / 4) (drop at image)) h ∙ rw (drop-drop 4 at image)
+    cell-runs h = told h ∙ rw (drop-drop 4 at image)
 
     pub cell-empty : d ≡ Empty → cellsFrom p image at ≡ allZero (drop at image)
-    cell-empty h = told ∙ ap (behind p (p .t - (at + 4) / 4) (drop at image)) h
+    cell-empty h = told h
 
     pub cell-invalid : d ≡ Invalid → cellsFrom p image at ≡ false
-    cell-invalid h = told ∙ ap (behind p (p .t - (at + 4) / 4) (drop at image)) h
+    cell-invalid h = told h

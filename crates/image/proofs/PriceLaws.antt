@@ -1,7 +1,7 @@
 -- The table of prices, read at an instruction's number, and what an instruction that fits costs and writes. Assumes nothing.
 use Prim.Native.Nat.{ℕ, zero, suc, _+_, _*_, _-_, _/_, _%_, _^_, _≤_, _<_}
 use mathlib.Core.Path.{_≡_, refl, sym, ap, _∙_}
-use mathlib.Core.Bool.{Bool, true, false, _&&_, _||_, cond}
+use mathlib.Core.Bool.{Bool, true, _&&_, _||_}
 use mathlib.Core.List.{List, [], _∷_}
 use native.Mathlib.Decide.{decLt}
 use native.Mathlib.Nat.{mul-one, mul-le-mul, lt-of-le-of-lt}
@@ -52,7 +52,7 @@ price-two n d l h less two =
     rw e (eqb-true _ _ (k .1))
 
 -- Prices that are not multiplied, and those that are, by N or by S.
-pub times-one : (p : Parameters) (n : ℕ) → 5 ≤ n → n ≤ 54 → times p (rowOf n .multiplier) ≡ 1
+times-one : (p : Parameters) (n : ℕ) → 5 ≤ n → n ≤ 54 → times p (rowOf n .multiplier) ≡ 1
 unfolding rowOf
 times-one p n l h = eqb-true _ _ (at-number (λ (k : ℕ). eqb (times p (rowOf k .multiplier)) 1) 5 50 n refl l (omega arith))
 
@@ -81,25 +81,22 @@ product-fits {a} {b} h k =
     record { fits = lt-of-le-of-lt (mul-le-mul h′ k′) (omega arith) }
 
 -- DIRECT ARGUMENTS. No more of them than places that allow one, and a price for each count.
+pub direct-small : (w : ℕ) → isDirect w ≤ 1
+direct-small w = by-cond (λ (x : ℕ). x ≤ 1) (eqb (kindOf w) 2) 1 0 (λ h. omega arith) (λ h. omega arith)
+
 abbrev directWords : List ℕ → ℕ
 directWords [] = 0
 directWords (w ∷ ws) = isDirect w + directWords ws
-
-pub direct-small : (w : ℕ) → isDirect w ≤ 1
-direct-small w = by-cond (λ (x : ℕ). x ≤ 1) (eqb (kindOf w) 2) 1 0 (λ h. omega arith) (λ h. omega arith)
 
 abbrev directForms : List ℕ → ℕ
 directForms [] = 0
 directForms (f ∷ fs) = f / 4 % 2 + directForms fs
 
 direct-allowed : (p : Parameters) (f w : ℕ) → wordFits p f w ≡ true → isDirect w ≤ f / 4 % 2
-direct-allowed p f w h = go (eqb (kindOf w) 2) refl
-  where
-    go : (b : Bool) → eqb (kindOf w) 2 ≡ b → cond b 1 0 ≤ f / 4 % 2
-    go true e =
-        let k = sym (direct-word p f w (eqb-true _ _ e)) ∙ h in
-        omega (arith, eqb-true (f / 4 % 2) 1 (both (eqb (f / 4 % 2) 1) _ k .0))
-    go false e = omega arith
+direct-allowed p f w h =
+    by-cond (λ (x : ℕ). x ≤ f / 4 % 2) (eqb (kindOf w) 2) 1 0
+    (λ e. omega (arith, eqb-true (f / 4 % 2) 1 (both (eqb (f / 4 % 2) 1) _ (sym (direct-word p f w (eqb-true (kindOf w) 2 e)) ∙ h) .0)))
+    (λ e. omega arith)
 
 directs-allowed : (p : Parameters) (fs ws : List ℕ) → wordsFit p fs ws ≡ true → directWords ws ≤ directForms fs
 unfolding wordsFit
