@@ -1,6 +1,5 @@
 pub mod FitLaws
 pub mod FormLaws
 pub mod ImageLaws
-pub mod PriceLaws
 pub mod RowLaws
 pub mod WordLaws

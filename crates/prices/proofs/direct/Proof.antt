@@ -1,9 +1,9 @@
--- `prices::direct` meets its contract. Assumes nothing.
+-- `direct` meets its contract. Assumes nothing.
 use mathlib.Core.Path.{sym, _∙_}
 use borrow.Author.Tests.{eq-eqb, ne-eqb}
 use borrow.Author.Needs.{needs}
-use Rattle.image.proofs.prices.direct.Statement.{statement}
-use Rattle.image.proofs.prices.direct.Tie as tie
+use Rattle.prices.proofs.direct.Statement.{statement}
+use Rattle.prices.proofs.direct.Tie as tie
 
 kind-requires : tie.Need-kind-requires
 kind-requires c κs = search needs

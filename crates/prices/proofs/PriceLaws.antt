@@ -18,9 +18,9 @@ use Rattle.model.specs.Instructions.{Operation, clearRegisters, clearCells, dum
 use Rattle.model.specs.Images.{wordFits, wordsFit, cellFits}
 use Rattle.model.specs.Step.{State, writtenBy}
 use Rattle.model.proofs.Fits.{both, by-cond, is-between}
-use Rattle.image.specs.Prices.{priceTable, priceOf, isDirect, valueCount}
+use Rattle.prices.specs.Prices.{priceTable, priceOf, isDirect, valueCount}
 use Rattle.image.proofs.FitLaws.{direct-word}
 use Rattle.image.proofs.RowLaws.{at-number}
 
 -- THE TABLE
 pub prices-length : length priceTable ≡ 61

@@ -1,13 +1,13 @@
--- `prices::price_place` meets its contract. Assumes nothing.
+-- `price_place` meets its contract. Assumes nothing.
 use Prim.Native.Nat.{_≤_}
 use mathlib.Core.Path.{sym, _∙_}
 use native.Mathlib.Omega.{arith}
 use Rattle.model.specs.Instructions.{directs}
 use Rattle.image.specs.Decode.{cellFrom}
-use Rattle.image.proofs.PriceLaws.{price-none, price-one, price-two}
+use Rattle.prices.proofs.PriceLaws.{price-none, price-one, price-two}
 use borrow.Author.Needs.{needs}
-use Rattle.image.proofs.prices.price_place.Statement.{statement}
-use Rattle.image.proofs.prices.price_place.Tie as tie
+use Rattle.prices.proofs.price_place.Statement.{statement}
+use Rattle.prices.proofs.price_place.Tie as tie
 
 direct-arguments-requires : tie.Need-direct-arguments-requires
 direct-arguments-requires c κs = search needs

@@ -5,10 +5,10 @@ ghost use Prim.Native.Nat.{_≤_, _<_};
 ghost use lib.ListN.{length, getD};
 ghost use Rattle.model.specs.Instructions.{rowOf, directs, costOf};
 ghost use Rattle.model.specs.Images.{cellFits};
 ghost use Rattle.image.specs.Decode.{cellFrom};
-ghost use Rattle.image.specs.Prices.{priceTable, priceOf, isDirect, valueCount};
-use crate::decode::Instruction;
-use crate::words::kind;
+ghost use Rattle.prices.specs.Prices.{priceTable, priceOf, isDirect, valueCount};
+use image::decode::Instruction;
+use image::words::kind;
 use model::Parameters;
 
 // By number, from 1 on, for no direct argument; then for one, IN, OUT, MOV, SET, PUSH and POP; then for two, MOV.

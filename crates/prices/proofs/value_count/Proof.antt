@@ -1,10 +1,10 @@
--- `prices::value_count` meets its contract. Assumes nothing.
+-- `value_count` meets its contract. Assumes nothing.
 use mathlib.Core.Path.{sym}
 use Rattle.model.specs.Instructions.{rowOf}
-use Rattle.image.proofs.PriceLaws.{values-none}
+use Rattle.prices.proofs.PriceLaws.{values-none}
 use borrow.Author.Needs.{needs}
-use Rattle.image.proofs.prices.value_count.Statement.{statement}
-use Rattle.image.proofs.prices.value_count.Tie as tie
+use Rattle.prices.proofs.value_count.Statement.{statement}
+use Rattle.prices.proofs.value_count.Tie as tie
 
 cast-result : tie.Need-cast-result
 cast-result c = search needs

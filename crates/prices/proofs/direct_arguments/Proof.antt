@@ -1,10 +1,10 @@
--- `prices::direct_arguments` meets its contract. Assumes nothing.
+-- `direct_arguments` meets its contract. Assumes nothing.
 use native.Mathlib.Omega.{arith}
 use Rattle.model.specs.Instructions.{directs}
-use Rattle.image.proofs.PriceLaws.{direct-small}
+use Rattle.prices.proofs.PriceLaws.{direct-small}
 use borrow.Author.Needs.{needs}
-use Rattle.image.proofs.prices.direct_arguments.Statement.{statement}
-use Rattle.image.proofs.prices.direct_arguments.Tie as tie
+use Rattle.prices.proofs.direct_arguments.Statement.{statement}
+use Rattle.prices.proofs.direct_arguments.Tie as tie
 
 direct-requires : tie.Need-direct-requires
 direct-requires c κs = search needs

@@ -1,16 +1,16 @@
--- `prices::cost` meets its contract. Assumes nothing.
+-- `cost` meets its contract. Assumes nothing.
 use Prim.Native.Nat.{_-_, _^_, _<_}
 use mathlib.Core.Path.{_≡_}
 use native.Mathlib.Omega.{arith}
 use denote.Ref.{now}
 use lib.ListN.{getD}
 use Rattle.model.specs.Instructions.{directs}
 use Rattle.image.specs.Decode.{cellFrom}
-use Rattle.image.specs.Prices.{priceOf}
-use Rattle.image.proofs.PriceLaws.{prices-length, product-fits, times-registers, times-cells, is-number, directs-priced, cost-multiplied, cost-single, cost-undirected}
+use Rattle.prices.specs.Prices.{priceOf}
+use Rattle.prices.proofs.PriceLaws.{prices-length, product-fits, times-registers, times-cells, is-number, directs-priced, cost-multiplied, cost-single, cost-undirected}
 use borrow.Author.Needs.{needs}
-use Rattle.image.proofs.prices.cost.Statement.{statement}
-use Rattle.image.proofs.prices.cost.Tie as tie
+use Rattle.prices.proofs.cost.Statement.{statement}
+use Rattle.prices.proofs.cost.Tie as tie
 
 -- The word that was read, and the price that it is.
 bound : (c : tie.After-shared-slice-known3) → getD (now (c .before .before .before .before .args .prices)) (c .before .price-place .result) 0 < 2 ^ 32
