@@ -10,12 +10,17 @@ use Rattle.model.specs.declared.Parameters.{Parameters}
 use Rattle.model.specs.declared.LoadReply.{LoadReply}
 use Rattle.model.specs.declared.LoadReply.the-variants.{Accepted, Refused}
 use Rattle.model.specs.Parameters.{Check, _unless_, refusalOf, parameterChecks, Fit}
-use Rattle.model.specs.Load.{lengthCheck, textReply, loadChecks, loadReply, imageAfter}
+use Rattle.model.specs.Load.{lengthCheck, textReply, loadChecks, loadReply, imageAfter, loadNumbers}
 use Rattle.model.proofs.Fits.{all-fit, parameters-numbered, refusal-first, refusal-later}
 use Rattle.loader.specs.Cells.{Holds}
 
 module _ (p : Parameters) (text old : List ℕ) where
-  -- The reply and the image together, of a refusal by the checks and of a text that they pass.
+  -- A reply with the paper's numbers, and what else is promised.
+  pub answered : {X : Type 0} {r : LoadReply} → r ≡ loadReply p text old → X →
+      (r ≡ loadReply p text old) × ((loadNumbers r ≡ loadNumbers (loadReply p text old)) × X)
+  answered e x = (e, (ap loadNumbers e, x))
+
+  -- A refusal by the checks, and a text that they pass.
   refused : (r : ℕ) → ¬ (r ≡ 0) → refusalOf (loadChecks p text old) ≡ r → Refused r 0 ≡ loadReply p text old
   unfolding loadReply
   refused zero h e = absurd (h refl)

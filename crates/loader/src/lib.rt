@@ -8,7 +8,7 @@ ghost use lib.ListN.{length, take, drop, replicate};
 ghost use lib.Seq.{sets};
 ghost use Rattle.model.specs.declared.LoadReply.the-variants.{Refused};
 ghost use Rattle.model.specs.Parameters.{limit, Fit};
-ghost use Rattle.model.specs.Load.{lines, textReply, loadReply, imageAfter};
+ghost use Rattle.model.specs.Load.{lines, textReply, loadReply, imageAfter, loadNumbers};
 ghost use Rattle.loader.specs.Cells.{Holds};
 use cells::limits::limit_of;
 use cells::limits::parameter_refusal;
@@ -97,6 +97,7 @@ fn write_image(cells: &[u32], image: &mut [u32])
 // Loads a text. Nothing is written to the image before the last line has passed.
 pub fn load(p: Parameters, text: &[u8], image: &mut [u32]) -> LoadReply
     ensures { λ r. ⌜ r ≡ loadReply p (now (text .entry)) (now (image .entry)) ⌝ }
+    ensures numbers { λ r. ⌜ loadNumbers r ≡ loadNumbers (loadReply p (now (text .entry)) (now (image .entry))) ⌝ }
     ensures image { λ r. ⌜ now (image .exit) ≡ imageAfter p (now (text .entry)) (now (image .entry)) r ⌝ }
 {
     let refusal = parameter_refusal(p);

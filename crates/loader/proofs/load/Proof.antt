@@ -4,7 +4,7 @@ use borrow.Author.Needs.{needs}
 use denote.Ref.{now}
 use Rattle.model.specs.Parameters.{Fit}
 use Rattle.model.proofs.Fits.{limits}
-use Rattle.loader.proofs.LoadLaws.{by-parameters, by-length, by-text, by-lines, image-written, image-kept}
+use Rattle.loader.proofs.LoadLaws.{answered, by-parameters, by-length, by-text, by-lines, image-written, image-kept}
 use Rattle.loader.proofs.load.Statement.{statement}
 use Rattle.loader.proofs.load.Tie as tie
 
@@ -18,7 +18,8 @@ parameter-refusal-requires c κs = search needs
 returns : tie.Need-returns
 returns c =
     let a = c .before .before .before .before .args in
-    (by-parameters (a .p) (now (a .text)) (now (a .image)) (c .before .parameter-refusal .ensures) (c .if1 .taken), refl)
+    answered (a .p) (now (a .text)) (now (a .image))
+    (by-parameters (a .p) (now (a .text)) (now (a .image)) (c .before .parameter-refusal .ensures) (c .if1 .taken)) refl
 
 cast-t : tie.Need-cast-t
 cast-t c = search needs
@@ -28,16 +29,16 @@ mul-if2 c = search needs
 
 returns-2 : tie.Need-returns-2
 returns-2 c =
-    let s = c .before .before .before .before .before .before in
-    let a = s .args in
-    (by-length (a .p) (now (a .text)) (now (a .image)) (fit-of (c .before .before)) (c .if2 .taken), refl)
+    let a = c .before .before .before .before .before .before .args in
+    answered (a .p) (now (a .text)) (now (a .image)) (by-length (a .p) (now (a .text)) (now (a .image)) (fit-of (c .before .before)) (c .if2 .taken)) refl
 
 returns-3 : tie.Need-returns-3
 returns-3 c =
     let two = c .before in
     let one = two .before .before in
     let a = one .before .before .before .before .args in
-    (by-text (a .p) (now (a .text)) (now (a .image)) (fit-of one) (two .if2 .left) (c .if3 .taken), refl)
+    answered (a .p) (now (a .text)) (now (a .image))
+    (by-text (a .p) (now (a .text)) (now (a .image)) (fit-of one) (two .if2 .left) (c .if3 .taken)) refl
 
 limit-of-requires : tie.Need-limit-of-requires
 limit-of-requires c κs = let l = limits _ (fit-of (c .before .before .before)) in (l .k-low, l .k-high)
@@ -74,11 +75,11 @@ returns-4 c =
     let p = s .args .p in
     let text = now (s .args .text) in
     let image = now (s .args .image) in
-    let done = c .before .before .before .before .before .before .before .before .parse-lines in (
-      by-lines p text image (fit-of one) (e .before .if2 .left) (omega arith) (done .ensures .0),
-      image-written p text image (done .last .1 .1 .1 .0) _ (c .before .before .before .before .before .enum-told .given .1) (done .ensures .1 .0) (e .before .if2 .left)
-          (c .before .before .write-image .ensures),
-    )
+    let done = c .before .before .before .before .before .before .before .before .parse-lines in
+    answered p text image
+    (by-lines p text image (fit-of one) (e .before .if2 .left) (omega arith) (done .ensures .0))
+    (image-written p text image (done .last .1 .1 .1 .0) _ (c .before .before .before .before .before .enum-told .given .1) (done .ensures .1 .0)
+    (e .before .if2 .left) (c .before .before .write-image .ensures))
 
 returns-5 : tie.Need-returns-5
 returns-5 c =
@@ -89,7 +90,8 @@ returns-5 c =
     let text = now (s .args .text) in
     let image = now (s .args .image) in
     let done = c .before .before .before .parse-lines in
-    (by-lines p text image (fit-of one) (e .before .if2 .left) (omega arith) (done .ensures .0), image-kept p text image (c .enum-told2 .given .1))
+    answered p text image
+    (by-lines p text image (fit-of one) (e .before .if2 .left) (omega arith) (done .ensures .0)) (image-kept p text image (c .enum-told2 .given .1))
 
 pub load-spec : {M : Type 1} → statement M
 load-spec =
