@@ -1,3 +1,4 @@
+-- `load` meets its contract, check by check. Assumes nothing.
 use mathlib.Core.Path.{refl, sym, _∙_}
 use native.Mathlib.Omega.{arith}
 use borrow.Author.Needs.{needs}

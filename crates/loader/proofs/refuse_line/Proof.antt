@@ -1,3 +1,4 @@
+-- `refuse_line` meets its contract: the lines left are counted against the room behind line i. Assumes nothing.
 use Prim.Native.Nat.{ℕ, _+_, _-_, _≤_, _<_}
 use mathlib.Core.Path.{_≡_, ap, _∙_}
 use mathlib.Core.List.{List}

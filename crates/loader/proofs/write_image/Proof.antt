@@ -1,3 +1,4 @@
+-- `write_image` meets its contract: the cells' beginning stands in front of the rest of the old image. Assumes nothing.
 use Prim.Native.Nat.{ℕ, _-_, _≤_, _<_}
 use mathlib.Core.Path.{_≡_, refl, ap, _∙_}
 use mathlib.Core.List.{List, _++_, append-nil}

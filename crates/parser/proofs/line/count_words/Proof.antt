@@ -1,3 +1,4 @@
+-- `line::count_words` meets its contract: `count` words are passed, and those from `at` on are left. Assumes nothing.
 use Prim.Native.Nat.{_+_, _-_, _≤_}
 use mathlib.Core.Path.{_≡_, ap}
 use native.Mathlib.Omega.{arith}

@@ -1,3 +1,4 @@
+-- `line::parse_arguments` meets its contract, by the laws of LineLaws at each way out of the loop and each turn. Assumes nothing.
 use mathlib.Core.Path.{_≡_, refl, sym, ap, _∙_}
 use native.Mathlib.Omega.{arith}
 use lib.ListN.{length, length-set}

@@ -1,3 +1,4 @@
+-- `line::parse_line` meets its contract: no words, an unknown name, or the arguments of a known one. Assumes nothing.
 use Prim.Native.Nat.{ℕ}
 use mathlib.Core.Path.{sym, ap, _∙_}
 use mathlib.Core.List.{List, []}

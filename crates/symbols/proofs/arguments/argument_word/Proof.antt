@@ -1,3 +1,4 @@
+-- `arguments::argument_word` meets its contract, by the first letter and the special registers' names. Assumes nothing.
 use mathlib.Core.Path.{sym, ap, _∙_}
 use mathlib.Core.Option.{Option}
 use native.Mathlib.Omega.{arith}

@@ -1,3 +1,4 @@
+-- `arguments::literal_word` meets its contract: two's complement of 30 bits under kind 3. Assumes nothing.
 use Prim.Native.Nat.{_+_, _<_, _^_}
 use mathlib.Core.Path.{_≡_, refl}
 use native.Mathlib.Omega.{arith}

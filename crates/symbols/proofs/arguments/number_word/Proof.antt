@@ -1,3 +1,4 @@
+-- `arguments::number_word` meets its contract: what is read decides, and a number that is read is in range. Assumes nothing.
 use Prim.Native.Nat.{_≤_, _<_, _^_}
 use mathlib.Core.Path.{sym, ap, _∙_}
 use native.Mathlib.Omega.{arith}

@@ -1,3 +1,4 @@
+-- `names::find_long` meets its contract: only the first four names are so long. Assumes nothing.
 use mathlib.Core.Path.{sym, _∙_}
 use borrow.Author.Needs.{needs}
 use denote.Ref.{now}

@@ -1,3 +1,4 @@
+-- `names::find_name` meets its contract: a short word by its key, a long one by its bytes. Assumes nothing.
 use Prim.Native.Nat.{ℕ}
 use mathlib.Core.Path.{sym, ap, _∙_}
 use native.Mathlib.Omega.{arith}

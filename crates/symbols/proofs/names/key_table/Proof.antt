@@ -1,3 +1,4 @@
+-- `names::key_table` meets its contract: the keys of the names are computed. Assumes nothing.
 use mathlib.Core.Path.{refl}
 use Rattle.model.specs.Load.{names}
 use Rattle.symbols.specs.Keys.{keyFrom, keyTable}

@@ -1,3 +1,4 @@
+-- `names::same_word` meets its contract: what is left to compare decides. Assumes nothing.
 use Prim.Native.Nat.{_-_, _≤_, _<_}
 use mathlib.Core.Path.{_≡_, refl, sym, _∙_}
 use native.Mathlib.Omega.{arith}

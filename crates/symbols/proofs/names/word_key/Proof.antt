@@ -1,3 +1,4 @@
+-- `names::word_key` meets its contract: the key of the bytes passed, and the bytes left behind it. Assumes nothing.
 use Prim.Native.Nat.{ℕ, _+_, _*_, _-_, _^_, _≤_, _<_}
 use mathlib.Core.Path.{_≡_, refl, sym, ap, _∙_}
 use native.Mathlib.Omega.{arith}
