@@ -15,7 +15,7 @@ use Rattle.model.specs.Load.{allows, isWithin}
 use Rattle.model.specs.Images.{wordFits, wordsFit, cellFits}
 use Rattle.model.proofs.Fits.{both, is-between, limits}
 use Rattle.cells.specs.Cells.{IsLimit}
-use Rattle.image.proofs.RowLaws.{at-number}
+use Rattle.model.proofs.Rows.{row-rule}
 use Rattle.image.specs.Forms.{packed}
 use Rattle.image.specs.Decode.{registerFits, placeFits, placesFit}
 
@@ -55,7 +55,7 @@ module _ (p : Parameters) (form w : ℕ) where
   other-word a b d = rw (ne-eqb (kindOf w) 1 a, ne-eqb (kindOf w) 2 b, ne-eqb (kindOf w) 3 d)
 
 -- THE PLACES. Forms that a packed number can hold: at most three, and none 0.
-abbrev arePacked : List ℕ → Bool
+abbrev pub arePacked : List ℕ → Bool
 arePacked [] = true
 arePacked (f ∷ fs) = between 1 15 f && arePacked fs
 
@@ -90,12 +90,11 @@ module _ (p : Parameters) (x y z : ℕ) where
   words-fit (f ∷ g ∷ k ∷ m ∷ fs) l h = absurd (omega arith)
 
 -- THE CELL
-abbrev packable : List ℕ → Bool
+abbrev pub packable : List ℕ → Bool
 packable fs = leb (length fs) 3 && arePacked fs
 
-rows-packable : (n : ℕ) → 1 ≤ n → n ≤ 54 → packable (rowOf n .forms) ≡ true
-unfolding rowOf
-rows-packable n l h = at-number (λ (k : ℕ). packable (rowOf k .forms)) 1 54 n refl l (omega arith)
+pub rows-packable : (n : ℕ) → packable (rowOf n .forms) ≡ true
+rows-packable n = row-rule (λ r. packable (r .forms)) refl n
 
 module _ (p : Parameters) (c : Cell) where
   pub cell-low : c .head < 1 → cellFits p c ≡ false
@@ -110,5 +109,5 @@ module _ (p : Parameters) (c : Cell) where
   unfolding cellFits
   cell-between l h =
       let fs = rowOf (c .head) .forms in
-      let k = both (leb (length fs) 3) (arePacked fs) (rows-packable (c .head) l h) in
+      let k = both (leb (length fs) 3) (arePacked fs) (rows-packable (c .head)) in
       rw (le-leb 1 (c .head) l, le-leb (c .head) 54 h) (words-fit p (c .first) (c .second) (c .third) fs (leb-true (length fs) 3 (k .0)) (k .1))

@@ -16,7 +16,8 @@ use Rattle.model.specs.Images.{wordFits, wordsFit, cellFits}
 use Rattle.model.proofs.Fits.{both, and-both, is-between, Limits}
 use Rattle.listing.specs.Listing.{argumentOf, argumentText, instructionWords, spaced}
 use Rattle.listing.proofs.Bytes.{areWords, words-back}
-use Rattle.listing.proofs.Rows.{name-word, three-forms, name-back, lookup-number}
+use Rattle.model.proofs.Rows.{lookup-number}
+use Rattle.listing.proofs.Rows.{name-word, three-forms, name-back}
 use Rattle.listing.proofs.Arguments.{text-word, word-back, placed-fits}
 
 -- The text of an image word.

@@ -11,39 +11,26 @@ use borrow.Author.Tests.{leb-true}
 use Rattle.model.specs.declared.Parameters.{Parameters}
 use Rattle.model.specs.Parameters.{Fit}
 use Rattle.model.specs.Words.{Cell}
-use Rattle.model.specs.Instructions.{Multiplier, one, byRegisters, byCells, Row, rows, rowOf, directs, times, costOf}
+use Rattle.model.specs.Instructions.{Multiplier, one, byRegisters, byCells, rowOf, directs, times, costOf}
 use Rattle.model.specs.Machine.{Priced, stops, goes, lookAt}
 use Rattle.model.specs.Grants.{Standing, advance, run}
 use Rattle.model.specs.Step.{Environment, State, Tak, currentCell, stepCost}
 use Rattle.model.proofs.Fits.{both, Limits, limits}
+use Rattle.model.proofs.Rows.{row-rule}
 use Rattle.model.proofs.Fuel.{run-law}
 
--- No price is 0: of a row, and of a table.
+-- No price of a row is 0.
 abbrev arePrices : List ℕ → Bool
 arePrices [] = true
 arePrices (x ∷ xs) = leb 1 x && arePrices xs
-
-abbrev havePrices : List Row → Bool
-havePrices [] = true
-havePrices (r ∷ rs) = arePrices (r .prices) && havePrices rs
-
-rows-priced : havePrices rows ≡ true
-rows-priced = refl
 
 price-pos : (xs : List ℕ) (n : ℕ) → arePrices xs ≡ true → 1 ≤ getD xs n 1
 price-pos [] n h = omega arith
 price-pos (x ∷ xs) zero h = leb-true 1 x (both (leb 1 x) (arePrices xs) h .0)
 price-pos (x ∷ xs) (suc n) h = price-pos xs n (both (leb 1 x) (arePrices xs) h .1)
 
-row-priced : (rs : List Row) (n : ℕ) (d : Row) → havePrices rs ≡ true → arePrices (d .prices) ≡ true →
-    arePrices (getD rs n d .prices) ≡ true
-row-priced [] n d h k = k
-row-priced (r ∷ rs) zero d h k = both (arePrices (r .prices)) (havePrices rs) h .0
-row-priced (r ∷ rs) (suc n) d h k = row-priced rs n d (both (arePrices (r .prices)) (havePrices rs) h .1) k
-
 row-of-priced : (n : ℕ) → arePrices (rowOf n .prices) ≡ true
-unfolding rowOf
-row-of-priced n = row-priced rows (n - 1) _ rows-priced refl
+row-of-priced n = row-rule (λ r. arePrices (r .prices)) refl n
 
 times-pos : (p : Parameters) → Limits p → (x : Multiplier) → 1 ≤ times p x
 times-pos p l one = omega arith

@@ -1,5 +1,6 @@
 pub mod Integers
 pub mod Fits
+pub mod Rows
 pub mod Decimals
 pub mod Costs
 pub mod Cells

@@ -1,7 +1,7 @@
 -- A line's arguments one by one, as the loop that reads them meets them, and their packed forms. Assumes nothing.
 use Prim.Native.Nat.{ℕ, zero, suc, _+_, _*_, _-_, _/_, _%_, _≤_, _<_, compare·suc-suc}
 use mathlib.Core.Path.{_≡_, refl, sym, ap, _∙_}
-use mathlib.Core.Bool.{Bool, true, false, _&&_, cond}
+use mathlib.Core.Bool.{Bool, true, false, cond}
 use mathlib.Core.List.{List, [], _∷_, _++_}
 use native.Mathlib.Omega.{arith}
 use lib.Dec.{isEq, eqb, leb}
@@ -11,10 +11,11 @@ use borrow.Author.Tests.{ne-eqb, lt-ltb, le-ltb, leb-true}
 use Rattle.model.specs.declared.Parameters.{Parameters}
 use Rattle.model.specs.Parameters.{between}
 use Rattle.model.specs.Words.{Cell, cellWith}
-use Rattle.model.specs.Instructions.{Row, rows, rowOf}
+use Rattle.model.specs.Instructions.{rowOf}
 use Rattle.model.specs.Load.{Checked, fine, fault, argument, placed, argumentsFrom, headed, words, lookup, lineCell}
 use Rattle.model.proofs.Fits.{both, is-between}
 use Rattle.image.specs.Forms.{packed}
+use Rattle.image.proofs.FitLaws.{arePacked, rows-packable}
 use Rattle.text.specs.Parts.{part}
 use Rattle.text.specs.Words.{NextWord}
 use Rattle.text.proofs.Walks.{first-word}
@@ -23,55 +24,33 @@ use Rattle.symbols.specs.Arguments.{placedOf}
 use Rattle.parser.specs.Lines.{formCount, counted}
 
 -- PACKED FORMS
--- Forms are 1 to 15.
-abbrev areForms : List ℕ → Bool
-areForms [] = true
-areForms (f ∷ fs) = between 1 15 f && areForms fs
-
-abbrev haveForms : List Row → Bool
-haveForms [] = true
-haveForms (r ∷ rs) = (areForms (r .forms) && leb (length (r .forms)) 3) && haveForms rs
-
-rows-forms : haveForms rows ≡ true
-rows-forms = refl
-
-at-row : (rs : List Row) (n : ℕ) (d : Row) → haveForms rs ≡ true → (areForms (d .forms) && leb (length (d .forms)) 3) ≡ true →
-    (areForms (getD rs n d .forms) && leb (length (getD rs n d .forms)) 3) ≡ true
-at-row [] n d h k = k
-at-row (r ∷ rs) zero d h k = both (areForms (r .forms) && leb (length (r .forms)) 3) (haveForms rs) h .0
-at-row (r ∷ rs) (suc n) d h k = at-row rs n d (both (areForms (r .forms) && leb (length (r .forms)) 3) (haveForms rs) h .1) k
-
-row-forms : (n : ℕ) → (areForms (rowOf n .forms) && leb (length (rowOf n .forms)) 3) ≡ true
-unfolding rowOf
-row-forms n = at-row rows (n - 1) _ rows-forms refl
-
 -- What the first form's four bits are, and the rest.
-packed-first : (f : ℕ) (fs : List ℕ) → areForms (f ∷ fs) ≡ true →
+packed-first : (f : ℕ) (fs : List ℕ) → arePacked (f ∷ fs) ≡ true →
     (1 ≤ packed (f ∷ fs)) × (packed (f ∷ fs) % 16 ≡ f) × (packed (f ∷ fs) / 16 ≡ packed fs)
 unfolding packed
 packed-first f fs h =
-    let b = is-between 1 15 f (both (between 1 15 f) (areForms fs) h .0) in
+    let b = is-between 1 15 f (both (between 1 15 f) (arePacked fs) h .0) in
     (omega arith, omega arith, omega arith)
 
 packed-none : packed [] ≡ 0
 unfolding packed
 packed-none = refl
 
-count-forms : (fs : List ℕ) → areForms fs ≡ true → length fs ≤ 3 → formCount (packed fs) ≡ length fs
+count-forms : (fs : List ℕ) → arePacked fs ≡ true → length fs ≤ 3 → formCount (packed fs) ≡ length fs
 unfolding packed
 count-forms [] h l = refl
 count-forms (f ∷ []) h l =
     let b = is-between 1 15 f (both (between 1 15 f) true h .0) in
     simp (ne-eqb (f + 16 * 0) 0 (λ e. absurd (omega arith)), lt-ltb (f + 16 * 0) 16 (omega arith))
 count-forms (f ∷ g ∷ []) h l =
-    let k = both (between 1 15 f) (areForms (g ∷ [])) h in
+    let k = both (between 1 15 f) (arePacked (g ∷ [])) h in
     let b = is-between 1 15 f (k .0) in
     let d = is-between 1 15 g (both (between 1 15 g) true (k .1) .0) in
     let n = f + 16 * (g + 16 * 0) in
     simp (ne-eqb n 0 (λ e. absurd (omega arith)), le-ltb n 16 (omega arith), lt-ltb n 256 (omega arith))
 count-forms (f ∷ g ∷ i ∷ []) h l =
-    let k = both (between 1 15 f) (areForms (g ∷ i ∷ [])) h in
-    let j = both (between 1 15 g) (areForms (i ∷ [])) (k .1) in
+    let k = both (between 1 15 f) (arePacked (g ∷ i ∷ [])) h in
+    let j = both (between 1 15 g) (arePacked (i ∷ [])) (k .1) in
     let d = is-between 1 15 i (both (between 1 15 i) true (j .1) .0) in
     let n = f + 16 * (g + 16 * (i + 16 * 0)) in
     simp (ne-eqb n 0 (λ e. absurd (omega arith)), le-ltb n 16 (omega arith), le-ltb n 256 (omega arith))
@@ -155,7 +134,7 @@ getD-zeros (x ∷ xs) k (suc j) = getD-zeros xs k j
 pub record Standing (p : Parameters) (n : ℕ) (l : List ℕ) (from : ℕ) (slots : List ℕ) (at rest i : ℕ) : Type 0 where
   pub done : List ℕ
   pub forms : List ℕ
-  pub are : areForms forms ≡ true
+  pub are : arePacked forms ≡ true
   pub few : i + length forms ≤ 3
   pub packs : rest ≡ packed forms
   pub inside : at ≤ length l
@@ -166,12 +145,12 @@ pub record Standing (p : Parameters) (n : ℕ) (l : List ℕ) (from : ℕ) (slot
 module _ (p : Parameters) (n : ℕ) (l : List ℕ) (from : ℕ) where
   pub at-start : (rest : ℕ) → rest ≡ packed (rowOf n .forms) → from ≤ length l → Standing p n l from (replicate 3 0) from rest 0
   at-start rest e h =
-      let k = both (areForms (rowOf n .forms)) (leb (length (rowOf n .forms)) 3) (row-forms n) in
+      let k = both (leb (length (rowOf n .forms)) 3) (arePacked (rowOf n .forms)) (rows-packable n) in
       record {
         done = [];
         forms = rowOf n .forms;
-        are = k .0;
-        few = omega (arith, leb-true (length (rowOf n .forms)) 3 (k .1));
+        are = k .1;
+        few = omega (arith, leb-true (length (rowOf n .forms)) 3 (k .0));
         packs = e;
         inside = h;
         count = refl;
@@ -208,7 +187,7 @@ module _ (p : Parameters) (n : ℕ) (l : List ℕ) (from : ℕ) where
         go : (fs : List ℕ) → s .forms ≡ fs → fs ≡ []
         go [] e = refl
         go (f ∷ fs) e =
-            let k = packed-first f fs (sym (ap areForms e) ∙ s .are) in
+            let k = packed-first f fs (sym (ap arePacked e) ∙ s .are) in
             let q : packed (f ∷ fs) ≡ 0 = sym (ap packed e) ∙ sym (s .packs) ∙ h in
             absurd (omega (arith, k .0))
 
@@ -237,13 +216,13 @@ module _ (p : Parameters) (n : ℕ) (l : List ℕ) (from : ℕ) where
 
     module _ {a b : ℕ} (h : ¬ (rest ≡ 0)) (w : NextWord l at a b) (d : ¬ (a ≡ b)) where
       -- The first form and the rest of them.
-      split : (areForms (left h .others) ≡ true) × (rest % 16 ≡ left h .first) × (rest / 16 ≡ packed (left h .others))
+      split : (arePacked (left h .others) ≡ true) × (rest % 16 ≡ left h .first) × (rest / 16 ≡ packed (left h .others))
       split =
           let f = left h in
-          let e = sym (ap areForms (f .is)) ∙ s .are in
+          let e = sym (ap arePacked (f .is)) ∙ s .are in
           let k = packed-first (f .first) (f .others) e in
           let q = s .packs ∙ ap packed (f .is) in
-          (both (between 1 15 (f .first)) (areForms (f .others)) e .1, ap (λ (m : ℕ). m % 16) q ∙ k .1, ap (λ (m : ℕ). m / 16) q ∙ k .2)
+          (both (between 1 15 (f .first)) (arePacked (f .others)) e .1, ap (λ (m : ℕ). m % 16) q ∙ k .1, ap (λ (m : ℕ). m / 16) q ∙ k .2)
 
       step : counted p n [] (rowOf n .forms) (words (drop from l))
           ≡ counted p n (s .done) (rest % 16 ∷ left h .others) (part a b l ∷ words (drop b l))

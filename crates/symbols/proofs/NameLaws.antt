@@ -158,20 +158,6 @@ by-keys k w (n ∷ ns) hw hn =
     go true e s i = name-here k w n ns e ∙ sym (key-here k (keyOf w) (keyOf n) (map keyOf ns) (sym s ∙ e))
     go false e s i = name-later k w n ns e ∙ i ∙ sym (key-later k (keyOf w) (keyOf n) (map keyOf ns) (sym s ∙ e))
 
--- A number that is found is one of the table's.
-found-below : (k : ℕ) (w : List ℕ) (ns : List (List ℕ)) → 1 ≤ k → lookupFrom k w ns < k + length ns
-unfolding lookupFrom
-found-below k w [] h = omega arith
-found-below k w (n ∷ ns) h = go (sameWord w n) refl (found-below (suc k) w ns (omega arith))
-  where
-    go : (b : Bool) → sameWord w n ≡ b → lookupFrom (suc k) w ns < suc k + length ns → lookupFrom k w (n ∷ ns) < k + suc (length ns)
-    go true e i = omega (arith, name-here k w n ns e)
-    go false e i = omega (arith, name-later k w n ns e)
-
-pub lookup-high : (w : List ℕ) → lookup w ≤ 54
-unfolding names
-lookup-high w = omega (arith, found-below 1 w names (omega arith))
-
 -- Every name of ns has a length that f allows.
 abbrev lengths : (ℕ → Bool) → List (List ℕ) → Bool
 lengths f [] = true

@@ -11,7 +11,7 @@ use Rattle.model.specs.Load.{words, lineCell}
 use Rattle.text.specs.Parts.{part}
 use Rattle.text.proofs.Walks.{first-word}
 use Rattle.parser.specs.Lines.{parsedOf, counted}
-use Rattle.symbols.proofs.NameLaws.{lookup-high}
+use Rattle.model.proofs.Rows.{lookup-number}
 use Rattle.parser.proofs.LineLaws.{line-empty, line-unknown, line-known}
 use Rattle.parser.proofs.line.parse_line.Statement.{statement}
 use Rattle.parser.proofs.line.parse_line.Tie as tie
@@ -51,9 +51,10 @@ forms-of-requires c κs =
     let f = c .before in
     let e = f .before .before in
     let s = e .before .before .before .before .before in
-    let h = lookup-high (part (e .before .next-word .result .start) (e .before .next-word .result .end) (now (s .args .l))) in
+    let w = part (e .before .next-word .result .start) (e .before .next-word .result .end) (now (s .args .l)) in
     let q = f .find-name .ensures in
-    (s .pre .1 .1, omega (arith, c .if2 .left), omega (arith, q, h))
+    let h = lookup-number w (λ z. c .if2 .left (q ∙ z)) in
+    (s .pre .1 .1, omega (arith, q, h .0), omega (arith, q, h .1))
 
 parse-arguments-requires : tie.Need-parse-arguments-requires
 parse-arguments-requires c κs = search needs
