@@ -1,3 +1,2 @@
-// What the instructions make of Booleans and of the K bits of a value. m is document 01's M throughout.
-pub mod bits;
+// What the instructions make of Booleans, and comparisons.
 pub mod booleans;

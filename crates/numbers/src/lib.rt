@@ -1,3 +1,2 @@
-// Decimal numbers: read from a word, and written.
-pub mod decimal;
+// Decimal numbers, read from a word.
 pub mod reading;

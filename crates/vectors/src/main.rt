@@ -5,12 +5,12 @@ ghost use Rattle.cells.specs.Cells.{IsLimit, Within};
 use cells::arithmetic::Computed;
 use cells::limits::limit_of;
 use cells::ranges::in_range;
-use numbers::decimal::write_decimal;
 use numbers::reading::Digits;
 use numbers::reading::Reading;
 use numbers::reading::read_digits;
 use numbers::reading::read_number;
 use text::tokens::next_token;
+use writer::decimal::write_decimal;
 
 // The first n bytes and the blank behind them.
 fn put_bytes(text: &[u8], n: usize) {
@@ -78,21 +78,21 @@ fn put_bits(m: u32, x: i32, y: i32)
     requires { ⌜ IsLimit m ⌝ }
     requires { ⌜ Within m x × Within m y ⌝ }
 {
-    put(logic::bits::rnot(x));
-    put(logic::bits::rand(m, x, y));
-    put(logic::bits::ror(m, x, y));
-    put(logic::bits::rxor(m, x, y));
-    put(logic::bits::rnand(m, x, y));
-    put(logic::bits::rnor(m, x, y));
+    put(bitwise::bits::rnot(x));
+    put(bitwise::bits::rand(m, x, y));
+    put(bitwise::bits::ror(m, x, y));
+    put(bitwise::bits::rxor(m, x, y));
+    put(bitwise::bits::rnand(m, x, y));
+    put(bitwise::bits::rnor(m, x, y));
 }
 
 fn put_shifts(m: u32, x: i32)
     requires { ⌜ IsLimit m ⌝ }
     requires { ⌜ Within m x ⌝ }
 {
-    put(logic::bits::rsl(m, x));
-    put(logic::bits::rsr(m, x));
-    put(logic::bits::asr(x));
+    put(bitwise::bits::rsl(m, x));
+    put(bitwise::bits::rsr(m, x));
+    put(bitwise::bits::asr(x));
 }
 
 fn put_all(m: u32, x: i32, y: i32)

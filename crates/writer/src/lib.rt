@@ -1,0 +1,2 @@
+// The decimal writer.
+pub mod decimal;
