@@ -16,9 +16,9 @@ use image::forms::form_table;
 use model::LoadReply;
 use model::Parameters;
 use model::Record;
+use names::key_table;
 use parser::line::Parsed;
 use parser::line::parse_line;
-use symbols::names::key_table;
 use text::lines::count_lines;
 use text::lines::next_line;
 

@@ -19,8 +19,8 @@ use Rattle.image.proofs.FitLaws.{arePacked, rows-packable}
 use Rattle.text.specs.Parts.{part}
 use Rattle.text.specs.Words.{NextWord}
 use Rattle.text.proofs.Walks.{first-word}
-use Rattle.symbols.specs.declared.arguments.Placed.the-variants.{Word, Fault}
-use Rattle.symbols.specs.Arguments.{placedOf}
+use Rattle.arguments.specs.declared.Placed.the-variants.{Word, Fault}
+use Rattle.arguments.specs.Places.{placedOf}
 use Rattle.parser.specs.Lines.{formCount, counted}
 
 -- PACKED FORMS

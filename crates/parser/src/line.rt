@@ -9,13 +9,13 @@ ghost use Rattle.model.specs.Parameters.{limit, Fit};
 ghost use Rattle.model.specs.Instructions.{rowOf};
 ghost use Rattle.model.specs.Load.{words, fault, lineOf};
 ghost use Rattle.image.specs.Forms.{packed, formTable};
-ghost use Rattle.symbols.specs.Keys.{keyTable};
+ghost use Rattle.names.specs.Keys.{keyTable};
 ghost use Rattle.parser.specs.Lines.{formCount, parsedOf, counted};
+use arguments::Placed;
+use arguments::argument_word;
 use image::forms::forms_of;
 use model::Parameters;
-use symbols::arguments::Placed;
-use symbols::arguments::argument_word;
-use symbols::names::find_name;
+use names::find_name;
 use text::words::next_word;
 
 // The words of a line's cell, or the line's fault: 11 to 14.
