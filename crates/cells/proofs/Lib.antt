@@ -1,4 +1,3 @@
 pub mod Integers
 pub mod LimitLaws
-pub mod Settled
 pub mod Table

@@ -4,8 +4,8 @@ ghost use mathlib.Core.Bool.{not, xor, _&&_, _||_, cond};
 ghost use lib.Signed.{ltZ, leZ};
 ghost use Rattle.model.specs.Parameters.{eqZ, isTrue, isBoolean, booleanOf};
 ghost use Rattle.model.specs.Arithmetic.{value, code, negation, logic};
-ghost use Rattle.cells.specs.Cells.{computed};
-use cells::arithmetic::Computed;
+ghost use Rattle.arithmetic.specs.Answers.{computed};
+use arithmetic::Computed;
 
 // Two values are equal.
 pub fn equal(x: i32, y: i32) -> bool

@@ -2,7 +2,7 @@
 ghost use Prim.Native.Nat.{_≤_, _<_};
 ghost use lib.ListN.{length};
 ghost use Rattle.cells.specs.Cells.{IsLimit, Within};
-use cells::arithmetic::Computed;
+use arithmetic::Computed;
 use cells::limits::limit_of;
 use cells::ranges::in_range;
 use numbers::reading::Digits;
@@ -47,13 +47,13 @@ fn put_arithmetic(m: u32, x: i32, y: i32)
     requires { ⌜ IsLimit m ⌝ }
     requires { ⌜ Within m x ⌝ }
 {
-    put_computed(cells::arithmetic::neg(m, x));
-    put_computed(cells::arithmetic::abs(m, x));
-    put_computed(cells::arithmetic::add(m, x, y));
-    put_computed(cells::arithmetic::sub(m, x, y));
-    put_computed(cells::arithmetic::mul(m, x, y));
-    put_computed(cells::arithmetic::div(m, x, y));
-    put_computed(cells::arithmetic::modulo(x, y));
+    put_computed(arithmetic::neg(m, x));
+    put_computed(arithmetic::abs(m, x));
+    put_computed(arithmetic::add(m, x, y));
+    put_computed(arithmetic::sub(m, x, y));
+    put_computed(arithmetic::mul(m, x, y));
+    put_computed(arithmetic::div(m, x, y));
+    put_computed(arithmetic::modulo(x, y));
 }
 
 fn put_comparisons(x: i32, y: i32) {

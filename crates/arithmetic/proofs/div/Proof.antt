@@ -5,10 +5,10 @@ use mir.Facts.{toZ-ofZ}
 use mir.Syntax.{w32}
 use mir.Val.{SFits}
 use Rattle.model.specs.Arithmetic.{divide}
 use Rattle.cells.proofs.Integers.{mag-quot, is-zero, not-zero}
 use Rattle.cells.proofs.LimitLaws.{at-least, at-most}
-use Rattle.cells.proofs.arithmetic.div.Statement.{statement}
-use Rattle.cells.proofs.arithmetic.div.Tie as tie
+use Rattle.arithmetic.proofs.div.Statement.{statement}
+use Rattle.arithmetic.proofs.div.Tie as tie
 
 fits : (c : tie.Else1) → SFits w32 (quotZ (c .before .args .x) (c .before .args .y))
 fits c = record { sfits = omega (arith, mag-quot (c .before .args .x) (c .before .args .y), c .before .pre .1, at-most (c .before .pre .0)) }

@@ -1,8 +1,8 @@
 use borrow.Author.Needs.{needs}
 use mir.Facts.{toZ-ofZ}
 use Rattle.cells.proofs.Integers.{wide-minus-fits, cast-fits, cast-same, size-negative, size-positive}
-use Rattle.cells.proofs.arithmetic.abs.Statement.{statement}
-use Rattle.cells.proofs.arithmetic.abs.Tie as tie
+use Rattle.arithmetic.proofs.abs.Statement.{statement}
+use Rattle.arithmetic.proofs.abs.Tie as tie
 
 cast-z : tie.Need-cast-z
 cast-z c = cast-fits (c .fits .x)

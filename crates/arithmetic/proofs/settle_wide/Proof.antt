@@ -6,10 +6,10 @@ use mir.Facts.{toZ-ofZ}
 use mir.Syntax.{w32}
 use mir.Val.{SFits}
 use Rattle.model.specs.Parameters.{inRange}
 use Rattle.cells.proofs.LimitLaws.{at-most}
-use Rattle.cells.proofs.Settled.{is-in, is-out}
-use Rattle.cells.proofs.arithmetic.settle_wide.Statement.{statement}
-use Rattle.cells.proofs.arithmetic.settle_wide.Tie as tie
+use Rattle.arithmetic.proofs.Settled.{is-in, is-out}
+use Rattle.arithmetic.proofs.settle_wide.Statement.{statement}
+use Rattle.arithmetic.proofs.settle_wide.Tie as tie
 
 inside : (c : tie.Then1) → inRange (c .before .before .args .m) (c .before .before .args .z) ≡ true
 inside c = rw (toZ-ofZ (c .before .before .fits .z)) at (sym (c .before .in-range-wide .ensures) ∙ c .if1 .taken)

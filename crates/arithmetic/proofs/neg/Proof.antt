@@ -4,10 +4,10 @@ use lib.IntN.{negℤ}
 use mir.Facts.{toZ-ofZ}
 use mir.Syntax.{w32}
 use mir.Val.{SFits}
 use Rattle.cells.proofs.Integers.{mag-neg, zero-minus, zero-minus-fits}
 use Rattle.cells.proofs.LimitLaws.{at-most}
-use Rattle.cells.proofs.arithmetic.neg.Statement.{statement}
-use Rattle.cells.proofs.arithmetic.neg.Tie as tie
+use Rattle.arithmetic.proofs.neg.Statement.{statement}
+use Rattle.arithmetic.proofs.neg.Tie as tie
 
 fits : (c : tie.Start) → SFits w32 (negℤ (c .args .x))
 fits c = record { sfits = omega (arith, mag-neg (c .args .x), c .pre .1, at-most (c .pre .0)) }

@@ -1,12 +1,13 @@
-// NEG, ABS, ADD, SUB, MUL, DIV, MOD, INC and DEC. NEG and DIV work in 32 bits, the others in 64.
+// NEG, ABS, ADD, SUB, MUL, DIV, MOD, INC and DEC. NEG and DIV work in 32 bits, the others in 64. m is document 01's M throughout.
 ghost use mathlib.Core.Path.{_≡_};
 ghost use Prim.Native.Nat.{_≤_};
 ghost use lib.IntN.{pos, negℤ, natAbs, _+ℤ_, _-ℤ_, _*ℤ_};
 ghost use lib.Signed.{mag};
 ghost use Rattle.model.specs.Arithmetic.{checked, divide, remainder};
-ghost use Rattle.cells.specs.Cells.{IsLimit, Within, computed};
-use crate::ranges::in_range;
-use crate::ranges::in_range_wide;
+ghost use Rattle.cells.specs.Cells.{IsLimit, Within};
+ghost use Rattle.arithmetic.specs.Answers.{computed};
+use cells::ranges::in_range;
+use cells::ranges::in_range_wide;
 
 // A return code, and the value where it is 0.
 pub struct Computed {

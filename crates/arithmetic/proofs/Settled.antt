@@ -7,9 +7,10 @@ use lib.IntN.{ℤ, pos}
 use Rattle.model.specs.Parameters.{inRange}
 use Rattle.model.specs.Arithmetic.{checked}
 use Rattle.model.proofs.Ranges.{range-mag}
-use Rattle.cells.specs.declared.arithmetic.Computed.{Computed}
-use Rattle.cells.specs.Cells.{IsLimit, Within, computed}
+use Rattle.arithmetic.specs.declared.Computed.{Computed}
+use Rattle.cells.specs.Cells.{IsLimit, Within}
+use Rattle.arithmetic.specs.Answers.{computed}
 use Rattle.cells.proofs.LimitLaws.{at-least}
 
 abbrev result : ℕ → ℤ → Computed
 result n z = record { code = n; value = z }

@@ -5,9 +5,9 @@ use mir.Facts.{toZ-ofZ}
 use mir.Syntax.{w32}
 use mir.Val.{SFits}
 use Rattle.model.specs.Arithmetic.{remainder}
 use Rattle.cells.proofs.Integers.{widen, cast-fits, cast-same, quot-fits, rem-fits, is-zero, not-zero, wide-nonzero}
-use Rattle.cells.proofs.arithmetic.modulo.Statement.{statement}
-use Rattle.cells.proofs.arithmetic.modulo.Tie as tie
+use Rattle.arithmetic.proofs.modulo.Statement.{statement}
+use Rattle.arithmetic.proofs.modulo.Tie as tie
 
 fits : (c : tie.Else1) → SFits w32 (remZ (c .before .args .x) (c .before .args .y))
 fits c = rem-fits (c .before .fits .x) (c .before .fits .y)

@@ -1,9 +1,9 @@
 use borrow.Author.Needs.{needs}
 use mathlib.Core.Path.{sym, _∙_}
 use mir.Facts.{toZ-ofZ}
-use Rattle.cells.proofs.Settled.{is-in, is-out}
-use Rattle.cells.proofs.arithmetic.settle.Statement.{statement}
-use Rattle.cells.proofs.arithmetic.settle.Tie as tie
+use Rattle.arithmetic.proofs.Settled.{is-in, is-out}
+use Rattle.arithmetic.proofs.settle.Statement.{statement}
+use Rattle.arithmetic.proofs.settle.Tie as tie
 
 in-range-requires : tie.Need-in-range-requires
 in-range-requires c κs = search needs

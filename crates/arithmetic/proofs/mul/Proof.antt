@@ -1,8 +1,8 @@
 use borrow.Author.Needs.{needs}
 use mir.Facts.{toZ-ofZ}
 use Rattle.cells.proofs.Integers.{cast-fits, cast-same, mul-fits}
-use Rattle.cells.proofs.arithmetic.mul.Statement.{statement}
-use Rattle.cells.proofs.arithmetic.mul.Tie as tie
+use Rattle.arithmetic.proofs.mul.Statement.{statement}
+use Rattle.arithmetic.proofs.mul.Tie as tie
 
 cast-settle-wide : tie.Need-cast-settle-wide
 cast-settle-wide c = cast-fits (c .fits .x)
