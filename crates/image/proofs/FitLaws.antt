@@ -12,33 +12,37 @@ use Rattle.model.specs.Parameters.{between, limit, inRange, Fit}
 use Rattle.model.specs.Words.{Cell, kindOf, contentOf, numberOf}
 use Rattle.model.specs.Instructions.{rowOf}
 use Rattle.model.specs.Load.{allows, isWithin}
-use Rattle.model.specs.Images.{wordFits, wordsFit, cellFits}
+use Rattle.model.specs.Images.{registerFits, wordFits, wordsFit, cellFits}
 use Rattle.model.proofs.Fits.{both, is-between, limits}
 use Rattle.cells.specs.Cells.{IsLimit}
 use Rattle.model.proofs.Rows.{row-rule}
 use Rattle.image.specs.Forms.{packed}
-use Rattle.image.specs.Decode.{registerFits, placeFits, placesFit}
+use Rattle.image.specs.Decode.{placeFits, placesFit}
 
 pub is-limit : (p : Parameters) {m : ℕ} → Fit p → m ≡ limit (p .k) → IsLimit m
 is-limit p f e = let l = limits p f in record { k = p .k; low = l .k-low; high = l .k-high; is = e }
 
 -- A REGISTER
-module _ (n form r : ℕ) (few : n ≤ 256) where
-  pub register-below : r < n → eqb (form % 2) 1 ≡ registerFits n form r
-  register-below h = rw (lt-leb 256 r (omega arith), lt-ltb r n h) (sym (and-true (eqb (form % 2) 1)))
+module _ (p : Parameters) (form r : ℕ) (few : p .n ≤ 256) where
+  pub register-below : r < p .n → eqb (form % 2) 1 ≡ registerFits p form r
+  unfolding allows isWithin
+  register-below h = rw (lt-leb 256 r (omega arith), lt-ltb r (p .n) h) (sym (and-true (eqb (form % 2) 1)))
 
-  pub register-missing : n ≤ r → r < 256 → false ≡ registerFits n form r
-  register-missing l h = rw (lt-leb 256 r h, le-ltb r n l) (sym (and-false (eqb (form % 2) 1)))
+  pub register-missing : p .n ≤ r → r < 256 → false ≡ registerFits p form r
+  unfolding allows isWithin
+  register-missing l h = rw (lt-leb 256 r h, le-ltb r (p .n) l) (sym (and-false (eqb (form % 2) 1)))
 
-  pub register-beyond : n ≤ r → 256 ≤ r → 258 < r → false ≡ registerFits n form r
-  register-beyond l k h = rw (le-leb 256 r k, lt-leb r 258 h, le-ltb r n l) (sym (and-false (eqb (form % 2) 1)))
+  pub register-beyond : p .n ≤ r → 256 ≤ r → 258 < r → false ≡ registerFits p form r
+  unfolding allows isWithin
+  register-beyond l k h = rw (le-leb 256 r k, lt-leb r 258 h, le-ltb r (p .n) l) (sym (and-false (eqb (form % 2) 1)))
 
-  pub register-special : 256 ≤ r → r ≤ 258 → eqb (form / 2 % 2) 1 ≡ registerFits n form r
+  pub register-special : 256 ≤ r → r ≤ 258 → eqb (form / 2 % 2) 1 ≡ registerFits p form r
+  unfolding allows isWithin
   register-special k h = rw (le-leb 256 r k, le-leb r 258 h)
 
 -- A WORD, by its kind.
 module _ (p : Parameters) (form w : ℕ) where
-  pub register-word : kindOf w ≡ 1 → wordFits p form w ≡ registerFits (p .n) form (contentOf w)
+  pub register-word : kindOf w ≡ 1 → wordFits p form w ≡ registerFits p form (contentOf w)
   unfolding wordFits allows isWithin
   register-word e = rw e
 

@@ -1,9 +1,8 @@
 -- What the decoder answers.
 use Prim.Native.Nat.{ℕ, _/_, _%_}
 use mathlib.Core.Bool.{Bool, _&&_, cond}
-use lib.Dec.{eqb, ltb}
+use lib.Dec.{eqb}
 use Rattle.model.specs.declared.Parameters.{Parameters}
-use Rattle.model.specs.Parameters.{between}
 use Rattle.model.specs.Words.{Cell, isEmpty}
 use Rattle.model.specs.Images.{wordFits, cellFits}
 use Rattle.image.specs.declared.decode.Instruction.{Instruction}
@@ -17,10 +16,6 @@ instructionOf c = record { number = c .head; first = c .first; second = c .secon
 -- and back.
 abbrev pub cellFrom : Instruction → Cell
 cellFrom i = record { head = i .number; first = i .first; second = i .second; third = i .third }
-
--- A word of kind 1 at a place of this form, by its content, as `wordFits` of model has it.
-abbrev pub registerFits : (n form index : ℕ) → Bool
-registerFits n form r = cond (between 256 258 r) (eqb (form / 2 % 2) 1) (eqb (form % 2) 1 && ltb r n)
 
 -- A word at a place with this form; "An absent argument is 0", and has form 0.
 unfoldable pub placeFits : Parameters → (form word : ℕ) → Bool

@@ -4,9 +4,9 @@ ghost use Prim.Native.Nat.{_≤_};
 ghost use lib.ListN.{length};
 ghost use Rattle.model.specs.Parameters.{limit, Fit};
 ghost use Rattle.model.specs.Words.{cellOf, isEmpty};
-ghost use Rattle.model.specs.Images.{wordFits, cellFits};
+ghost use Rattle.model.specs.Images.{registerFits, wordFits, cellFits};
 ghost use Rattle.image.specs.Forms.{formTable};
-ghost use Rattle.image.specs.Decode.{instructionOf, cellFrom, registerFits, placeFits, placesFit, decodedOf};
+ghost use Rattle.image.specs.Decode.{instructionOf, cellFrom, placeFits, placesFit, decodedOf};
 use crate::forms::forms_of;
 use crate::words::content;
 use crate::words::kind;
@@ -43,11 +43,11 @@ pub fn read_cell(cell: &[u32]) -> Instruction
 }
 
 // A register at a place of this form: R0 to R(N-1), or one of the special registers 256 to 258.
-fn register_fits(n: u32, form: u32, index: u32) -> bool
-    requires { ⌜ n ≤ 256 ⌝ }
-    ensures { λ r. ⌜ r ≡ registerFits n form index ⌝ }
+fn register_fits(p: Parameters, form: u32, index: u32) -> bool
+    requires { ⌜ p .n ≤ 256 ⌝ }
+    ensures { λ r. ⌜ r ≡ registerFits p form index ⌝ }
 {
-    if index < n {
+    if index < p.n {
         return form % 2 == 1;
     }
     if index < 256 {
@@ -67,7 +67,7 @@ fn word_fits(p: Parameters, m: u32, form: u32, w: u32) -> bool
 {
     let k = kind(w);
     match k {
-        1 => register_fits(p.n, form, content(w)),
+        1 => register_fits(p, form, content(w)),
         2 => form / 4 % 2 == 1 && content(w) < p.b,
         3 => form / 8 % 2 == 1 && in_range(m, number(w)),
         _ => false,

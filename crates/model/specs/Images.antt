@@ -25,7 +25,7 @@ NoTextYields p image = (text : List ℕ) → ¬ Yields p text image
 
 -- THE TEST ON CELLS, which 10's number uses.
 -- "the register (0..N-1; IAR 256, IRCR 257, SHR 258)"
-abbrev registerFits : Parameters → (form r : ℕ) → Bool
+abbrev pub registerFits : Parameters → (form r : ℕ) → Bool
 registerFits p form r = cond (between 256 258 r) (allows form (special r)) (allows form (register r) && isWithin p (register r))
 
 -- Neither 13 nor 14.

@@ -162,7 +162,7 @@ unfoldable pub rowOf : ℕ → Row
 rowOf n = getD rows (n - 1) nop
 
 -- 1 for a direct argument.
-abbrev isDirect : ℕ → ℕ
+abbrev pub isDirect : ℕ → ℕ
 isDirect w = cond (eqb (kindOf w) 2) 1 0
 
 -- The addressing mode: the count of direct arguments.

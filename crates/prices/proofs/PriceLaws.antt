@@ -14,11 +14,11 @@ use mir.Val.{Fits}
 use Rattle.model.specs.declared.Parameters.{Parameters}
 use Rattle.model.specs.Parameters.{between}
 use Rattle.model.specs.Words.{Cell, kindOf}
-use Rattle.model.specs.Instructions.{Operation, clearRegisters, clearCells, dumpRegisters, dumpCells, inputs, outputs, pushes, pops, skips, idles, writes, jumps, jumpsOn, Row, rows, rowOf, directs, times, costOf}
+use Rattle.model.specs.Instructions.{Operation, clearRegisters, clearCells, dumpRegisters, dumpCells, inputs, outputs, pushes, pops, skips, idles, writes, jumps, jumpsOn, Row, rows, rowOf, directs, times, costOf, isDirect}
 use Rattle.model.specs.Images.{wordFits, wordsFit, cellFits}
 use Rattle.model.specs.Step.{State, writtenBy}
 use Rattle.model.proofs.Fits.{both, by-cond, is-between}
-use Rattle.prices.specs.Prices.{priceTable, priceOf, isDirect, valueCount}
+use Rattle.prices.specs.Prices.{priceTable, priceOf, valueCount}
 use Rattle.image.proofs.FitLaws.{direct-word}
 use Rattle.image.proofs.RowLaws.{at-number}
 

@@ -1,11 +1,8 @@
 -- The prices in one list, and how many values an instruction writes.
 use Prim.Native.Nat.{ℕ}
-use mathlib.Core.Bool.{cond}
 use mathlib.Core.List.{List, map, _++_}
-use lib.Dec.{eqb}
 use lib.ListN.{getD, take, drop}
 use Rattle.model.specs.declared.Parameters.{Parameters}
-use Rattle.model.specs.Words.{kindOf}
 use Rattle.model.specs.Instructions.{Operation, clearRegisters, clearCells, dumpRegisters, dumpCells, inputs, outputs, pushes, pops, skips, idles, writes, jumps, jumpsOn, Row, rows, rowOf}
 
 -- The prices of some rows for this many direct arguments.
@@ -19,10 +16,6 @@ priceTable = pricesFor 0 rows ++ (pricesFor 1 (take 6 (drop 4 rows)) ++ pricesFo
 -- An instruction's price for this many direct arguments, as in `costOf` of model.
 abbrev pub priceOf : (number mode : ℕ) → ℕ
 priceOf n mode = getD (rowOf n .prices) mode 1
-
--- 1 for a word that names a direct cell, as in `directs` of model.
-abbrev pub isDirect : ℕ → ℕ
-isDirect w = cond (eqb (kindOf w) 2) 1 0
 
 -- "OUT writes 1 value, the dumps N and S, others 0."
 abbrev pub valueCount : Parameters → Operation → ℕ
