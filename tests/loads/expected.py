@@ -8,9 +8,9 @@ import random
 import sys
 
 HERE = os.path.dirname(os.path.abspath(__file__))
-FOLDER = os.path.join(HERE, "..", "..", "crates", "loads")
-sys.path.insert(0, os.path.join(HERE, "..", "definitions"))
+sys.path[:0] = [os.path.join(HERE, ".."), os.path.join(HERE, "..", "definitions")]
 from model import DIRECT, NAMES, NUMBER, REGISTER, SPECIAL, decode, image_fits, load, parameter_refusal, places, price
+from stored import compare
 
 SIZE = 60000  # of the input, which the program reads into 65,536 bytes
 FORMS = (REGISTER, SPECIAL, DIRECT, NUMBER)
@@ -243,20 +243,5 @@ def expected(c):
     return "".join(line + "\n" for line in lines)
 
 
-def main():
-    listed, text = cases()
-    failed = 0
-    for name, content in (("stdin", text), ("stdout", "".join(map(expected, listed)).encode())):
-        path = os.path.join(FOLDER, name)
-        if "--write" in sys.argv:
-            with open(path, "wb") as f:
-                f.write(content)
-        with open(path, "rb") as f:
-            if f.read() != content:
-                print(f"loads: crates/loads/{name} is not what expected.py makes")
-                failed += 1
-    print(f"{2 - failed} passed, {failed} failed")
-    return 1 if failed else 0
-
-
-sys.exit(main())
+listed, text = cases()
+compare("loads", text, "".join(map(expected, listed)).encode())

@@ -7,9 +7,9 @@ import random
 import sys
 
 HERE = os.path.dirname(os.path.abspath(__file__))
-FOLDER = os.path.join(HERE, "..", "..", "crates", "vectors")
-sys.path.insert(0, os.path.join(HERE, "..", "definitions"))
+sys.path[:0] = [os.path.join(HERE, ".."), os.path.join(HERE, "..", "definitions")]
 from model import Failure, Machine, read_number
+from stored import compare
 
 # In the order of the program; those of WITH_CODE print their return code too.
 WITH_CODE = ("NEG", "ABS", "ADD", "SUB", "MUL", "DIV", "MOD", "NOT", "AND", "OR", "XOR", "NAND", "NOR")
@@ -66,20 +66,5 @@ def expected(text):
     return "".join(lines)
 
 
-def main():
-    text = vectors()
-    failed = 0
-    for name, content in (("stdin", text), ("stdout", expected(text))):
-        path = os.path.join(FOLDER, name)
-        if "--write" in sys.argv:
-            with open(path, "w", newline="") as f:
-                f.write(content)
-        with open(path, newline="") as f:
-            if f.read() != content:
-                print(f"vectors: crates/vectors/{name} is not what expected.py makes")
-                failed += 1
-    print(f"{2 - failed} passed, {failed} failed")
-    return 1 if failed else 0
-
-
-sys.exit(main())
+text = vectors()
+compare("vectors", text.encode(), expected(text).encode())

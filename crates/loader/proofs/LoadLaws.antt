@@ -12,6 +12,7 @@ use Rattle.model.specs.declared.LoadReply.the-variants.{Accepted, Refused}
 use Rattle.model.specs.Parameters.{Check, _unless_, refusalOf, parameterChecks, Fit}
 use Rattle.model.specs.Load.{lengthCheck, textReply, loadChecks, loadReply, imageAfter, loadNumbers}
 use Rattle.model.proofs.Fits.{all-fit, parameters-numbered, refusal-first, refusal-later}
+use Rattle.model.proofs.Refusals.{load-refused-first}
 use Rattle.loader.specs.Cells.{Holds}
 
 module _ (p : Parameters) (text old : List ℕ) where
@@ -22,9 +23,8 @@ module _ (p : Parameters) (text old : List ℕ) where
 
   -- A refusal by the checks, and a text that they pass.
   refused : (r : ℕ) → ¬ (r ≡ 0) → refusalOf (loadChecks p text old) ≡ r → Refused r 0 ≡ loadReply p text old
-  unfolding loadReply
   refused zero h e = absurd (h refl)
-  refused (suc k) h e = simp (loadReply, e)
+  refused (suc k) h e = sym (load-refused-first p text old k e)
 
   passed : refusalOf (loadChecks p text old) ≡ 0 → loadReply p text old ≡ textReply p text
   unfolding loadReply

@@ -9,7 +9,7 @@ use native.Mathlib.Omega.{arith}
 use lib.Arith.{lt-of-le-ne}
 use lib.Dec.{leb}
 use lib.ListN.{length, getD, set, take, drop, replicate, length-append}
-use lib.Seq.{sets, set-at, append-snoc, take-suc, drop-cons, take-append-add, length-take-le}
+use lib.Seq.{sets, set-at, append-snoc, take-append-add, paste-suc}
 use borrow.Author.Tests.{le-leb, lt-leb}
 use Rattle.model.specs.declared.Parameters.{Parameters}
 use Rattle.model.specs.declared.LoadReply.{LoadReply}
@@ -175,7 +175,6 @@ room l d h e = let k = lt-of-le-ne l d in omega arith
 pub copied : (cells image : List ℕ) (i : ℕ) → i < length image → length image ≤ length cells →
     set (take i cells ++ drop i image) i (getD cells i 0) ≡ take (i + 1) cells ++ drop (i + 1) image
 copied cells image i h l =
-    let k : i < length cells = omega arith in
-    rw (add-one, drop-cons image i 0 h, take-suc cells i 0 k)
-    (set-at (take i cells) (getD image i 0) (drop (suc i) image) (getD cells i 0) i (length-take-le i cells (omega arith))
-    ∙ sym (append-snoc (take i cells) (getD cells i 0) (drop (suc i) image)))
+    let e : set (take i cells ++ drop i image) i (getD cells i 0) ≡ take (suc i) cells ++ drop (suc i) image =
+    rw (zero-add i, zero-add (suc i)) at (paste-suc image 0 cells i 0 (omega arith) (omega arith)) in
+    rw (add-one i) e

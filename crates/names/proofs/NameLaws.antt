@@ -1,7 +1,7 @@
 -- A word compared with a name, byte by byte and by their keys. Assumes nothing.
 use Prim.Native.Nat.{ℕ, zero, suc, _+_, _*_, _-_, _^_, _≤_, _<_}
 use mathlib.Core.Path.{_≡_, refl, sym, ap, _∙_}
-use mathlib.Core.Bool.{Bool, true, false, _&&_, cond, true≢false}
+use mathlib.Core.Bool.{Bool, true, false, _&&_, and-false, cond, true≢false}
 use mathlib.Core.List.{List, [], _∷_, map}
 use native.Mathlib.Nat.{zero-add, lt-of-lt-of-le}
 use native.Mathlib.Numerals.{add-one}
@@ -17,10 +17,6 @@ use Rattle.model.proofs.Fits.{both, and-both, by-cond}
 use Rattle.names.specs.Keys.{keyFrom, keyOf, keyTable, placeFrom}
 
 -- BYTE BY BYTE
-and-false : (a : Bool) → (a && false) ≡ false
-and-false true = refl
-and-false false = refl
-
 pub other-length : (w n : List ℕ) → ¬ (length w ≡ length n) → sameWord w n ≡ false
 unfolding sameWord
 other-length [] [] h = absurd (h refl)
