@@ -1,0 +1,68 @@
+-- `other_value` meets its contract. Assumes nothing.
+use mathlib.Core.List.{[]}
+use mathlib.Core.Path.{sym, _∙_}
+use borrow.Author.Needs.{needs}
+use mir.Facts.{toZ-ofZ}
+use mir.Syntax.{w32}
+use mir.Val.{SFits}
+use Rattle.operands.proofs.OperandLaws.{register-alone, word-register, word-cell, word-number, word-other}
+use Rattle.operands.proofs.other_value.Statement.{statement}
+use Rattle.operands.proofs.other_value.Tie as tie
+
+kind-requires : tie.Need-kind-requires
+kind-requires c κs = search needs
+
+content-requires : tie.Need-content-requires
+content-requires c κs = search needs
+
+special-value-requires : tie.Need-special-value-requires
+special-value-requires c κs = search needs
+
+content-requires-2 : tie.Need-content-requires-2
+content-requires-2 c κs = search needs
+
+cell-value-requires : tie.Need-cell-value-requires
+cell-value-requires c κs = search needs
+
+number-requires : tie.Need-number-requires
+number-requires c κs = search needs
+
+returns : tie.Need-returns
+returns c =
+    let f : SFits w32 (c .special-value .result) = record { sfits = c .special-value .ok } in
+    let a = c .before .before .before .before .args in
+    let w = a .w in
+    toZ-ofZ f ∙ c .special-value .ensures ∙ rw (c .before .content .ensures) (register-alone (a .at) [] (a .cells .now) _ ∙ sym (word-register _ w (sym (c .before .before .before .kind .ensures) ∙ c .before .before .match .keys1)))
+
+returns-2 : tie.Need-returns-2
+returns-2 c =
+    let f : SFits w32 (c .cell-value .result) = record { sfits = c .cell-value .ok } in
+    let w = c .before .before .before .before .args .w in
+    toZ-ofZ f ∙ c .cell-value .ensures ∙ rw (c .before .content2 .ensures) (sym (word-cell _ w (sym (c .before .before .before .kind .ensures) ∙ c .before .before .match .keys2)))
+
+returns-3 : tie.Need-returns-3
+returns-3 c =
+    let f : SFits w32 (c .number .result) = record { sfits = c .number .ok } in
+    let w = c .before .before .before .args .w in
+    toZ-ofZ f ∙ c .number .ensures ∙ sym (word-number _ w (sym (c .before .before .kind .ensures) ∙ c .before .match .keys3))
+
+returns-4 : tie.Need-returns-4
+returns-4 c =
+    let no = c .match .rest in
+    let k = c .before .kind .ensures in
+    sym (word-other _ (c .before .before .args .w) (λ e. no .0 .0 .1 (k ∙ e)) (λ e. no .0 .1 (k ∙ e)) (λ e. no .1 (k ∙ e)))
+
+pub other-value-spec : {M : Type 1} → statement M
+other-value-spec =
+    tie.close
+    (tie.spec
+    kind-requires
+    content-requires
+    special-value-requires
+    content-requires-2
+    cell-value-requires
+    number-requires
+    returns
+    returns-2
+    returns-3
+    returns-4)

@@ -1,0 +1,19 @@
+-- Where the machine stands, as the code holds it.
+use Prim.Native.Nat.{_≤_}
+use mathlib.Core.List.{List}
+use lib.IntN.{ℤ, pos, _-ℤ_}
+use lib.ListN.{length}
+use Rattle.model.specs.Step.{State}
+use Rattle.operands.specs.declared.Core.{Core}
+
+-- The state of document 01's machine: SHR is top - 1.
+abbrev pub stateOf : Core → (registers cells : List ℤ) → State
+stateOf c registers cells =
+    record { iar = c .iar; ircr = c .ircr; shr = pos (c .top) -ℤ pos 1; place = c .place; registers = registers; cells = cells }
+
+-- Bounds that do for a read. A record that fits has them.
+pub record Bounded (c : Core) (registers : List ℤ) : Type 0 where
+  pub iar : c .iar ≤ 4096
+  pub ircr : c .ircr ≤ 3
+  pub top : c .top ≤ 4096
+  pub register-count : length registers ≤ 256

@@ -1,0 +1,102 @@
+-- `input` meets its contract. Assumes nothing.
+use mathlib.Core.Path.{sym, ap, _∙_}
+use borrow.Author.Needs.{needs}
+use mir.Facts.{toZ-ofZ}
+use mir.Syntax.{w32}
+use mir.Val.{SFits}
+use Rattle.cells.proofs.LimitLaws.{one, at-most}
+use Rattle.numbers.specs.Reading.{answerOf}
+use Rattle.plans.proofs.PlanLaws.{input-none, input-some}
+use Rattle.plans.proofs.input.Statement.{statement}
+use Rattle.plans.proofs.input.Tie as tie
+
+next-token-requires : tie.Need-next-token-requires
+next-token-requires c κs = search needs
+
+fail-requires : tie.Need-fail-requires
+fail-requires c κs = search needs
+
+returns : tie.Need-returns
+returns c =
+    let a = c .before .before .before .before .args in
+    c .fail .ensures ∙ input-none (a .w) (a .m) (a .at) (a .bytes .now) _ _ (c .before .before .next-token .ensures) (c .before .if1 .taken)
+
+sub-read-number : tie.Need-sub-read-number
+sub-read-number c = search needs
+
+part-read-number-start : tie.Need-part-read-number-start
+part-read-number-start c = search needs
+
+part-read-number-end : tie.Need-part-read-number-end
+part-read-number-end c = search needs
+
+read-number-requires : tie.Need-read-number-requires
+read-number-requires c κs = let l = c .before .before .before .before .pre .0 in (one l, at-most l)
+
+enum-told : tie.Need-enum-told
+enum-told c = search needs
+
+fail-requires-2 : tie.Need-fail-requires-2
+fail-requires-2 c κs = search needs
+
+enum-told-2 : tie.Need-enum-told-2
+enum-told-2 c = search needs
+
+fail-requires-3 : tie.Need-fail-requires-3
+fail-requires-3 c κs = search needs
+
+enum-known-reading : tie.Need-enum-known-reading
+enum-known-reading c = search needs
+
+put-requires : tie.Need-put-requires
+put-requires c κs = search needs
+
+returns-2 : tie.Need-returns-2
+returns-2 c =
+    let r = c .before .before .before in
+    let n = r .before .before .before in
+    let s = n .before .before in
+    c .fail2 .ensures
+    ∙ input-some (s .args .w) (s .args .m) (s .args .at) (s .args .bytes .now) _ _ (n .next-token .ensures) (r .before .before .if1 .left)
+    (ap answerOf (sym (c .before .enum-told .given .1)) ∙ r .read-number .ensures .1)
+
+returns-3 : tie.Need-returns-3
+returns-3 c =
+    let r = c .before .before .before in
+    let n = r .before .before .before in
+    let s = n .before .before in
+    c .fail3 .ensures
+    ∙ input-some (s .args .w) (s .args .m) (s .args .at) (s .args .bytes .now) _ _ (n .next-token .ensures) (r .before .before .if1 .left)
+    (ap answerOf (sym (c .before .enum-told2 .given .1)) ∙ r .read-number .ensures .1)
+
+returns-4 : tie.Need-returns-4
+returns-4 c =
+    let v = c .before .before in
+    let r = v .before .before in
+    let n = r .before .before .before in
+    let s = n .before .before in
+    let f : SFits w32 (v .reading .given .0 .0) = record { sfits = c .before .known-told .given .0 .1 } in
+    c .put .ensures
+    ∙ rw (toZ-ofZ f) (input-some (s .args .w) (s .args .m) (s .args .at) (s .args .bytes .now) _ _ (n .next-token .ensures) (r .before .before .if1 .left)
+    (ap answerOf (sym (v .reading .given .1)) ∙ r .read-number .ensures .1))
+
+pub input-spec : {M : Type 1} → statement M
+input-spec =
+    tie.close
+    (tie.spec
+    next-token-requires
+    fail-requires
+    returns
+    sub-read-number
+    part-read-number-start
+    part-read-number-end
+    read-number-requires
+    enum-told
+    fail-requires-2
+    enum-told-2
+    fail-requires-3
+    enum-known-reading
+    put-requires
+    returns-2
+    returns-3
+    returns-4)

@@ -1,0 +1,33 @@
+-- `jump_boolean` meets its contract. Assumes nothing.
+use mathlib.Core.Bool.{true, false}
+use mathlib.Core.Path.{_≡_, sym, _∙_}
+use borrow.Author.Needs.{needs}
+use mir.Facts.{toZ-ofZ}
+use Rattle.model.specs.Parameters.{isBoolean}
+use Rattle.plans.proofs.jump_boolean.Statement.{statement}
+use Rattle.plans.proofs.jump_boolean.Tie as tie
+
+is-boolean-requires : tie.Need-is-boolean-requires
+is-boolean-requires c κs = search needs
+
+jump-when-requires : tie.Need-jump-when-requires
+jump-when-requires c κs = search needs
+
+returns : tie.Need-returns
+returns c =
+    let s = c .before .before .before in
+    let h : isBoolean (s .args .value) ≡ true = rw (toZ-ofZ (s .fits .value)) at (sym (c .before .before .is-boolean .ensures) ∙ c .before .if1 .taken) in
+    c .jump-when .ensures ∙ rw (toZ-ofZ (s .fits .target), h)
+
+fail-requires : tie.Need-fail-requires
+fail-requires c κs = search needs
+
+returns-2 : tie.Need-returns-2
+returns-2 c =
+    let s = c .before .before .before in
+    let h : isBoolean (s .args .value) ≡ false = rw (toZ-ofZ (s .fits .value)) at (sym (c .before .before .is-boolean .ensures) ∙ c .before .if1 .left) in
+    c .fail .ensures ∙ rw h
+
+pub jump-boolean-spec : {M : Type 1} → statement M
+jump-boolean-spec =
+    tie.close (tie.spec is-boolean-requires jump-when-requires returns fail-requires returns-2)

@@ -1,0 +1,28 @@
+-- `skip` meets its contract. Assumes nothing.
+use Prim.Native.Nat.{_+_}
+use native.Mathlib.Omega.{arith}
+use lib.IntN.{pos}
+use borrow.Author.Needs.{needs}
+use mir.Facts.{toZ-ofZ, toZ-pos}
+use mir.Syntax.{w32}
+use mir.Val.{SFits}
+use Rattle.plans.proofs.skip.Statement.{statement}
+use Rattle.plans.proofs.skip.Tie as tie
+
+cast-jump : tie.Need-cast-jump
+cast-jump c = search needs
+
+add-jump : tie.Need-add-jump
+add-jump c = rw (toZ-pos w32 {n = c .before .args .at .iar} (omega (arith, c .before .pre))) (record { sfits = omega (arith, c .before .pre) })
+
+jump-requires : tie.Need-jump-requires
+jump-requires c κs = search needs
+
+returns : tie.Need-returns
+returns c =
+    let s = c .before .before in
+    let f : SFits w32 (pos (s .args .at .iar + 2)) = record { sfits = omega (arith, s .pre) } in
+    rw (toZ-pos w32 {n = s .args .at .iar} (omega (arith, s .pre)), toZ-ofZ f) at (c .jump .ensures)
+
+pub skip-spec : {M : Type 1} → statement M
+skip-spec = tie.close (tie.spec cast-jump add-jump jump-requires returns)
