@@ -96,7 +96,8 @@ module _ (e : Environment) where
     replied-is : map replyOf (gives (e .image) (e .input) (heldOf p (start M)) calls) ≡ replies res
     replied-is = rw (gives-is calls (start M)) (replies-is p res)
 
-    translate : lists.Demand3 M check calls → Demand3 e (heldOf p (start M)) calls
+    translate : lists.Demand3 M check calls →
+        Demand3 e calls (gives (e .image) (e .input) (heldOf p (start M)) calls) (leaves (e .image) (e .input) (heldOf p (start M)) calls)
     translate d =
         let held = leaves-is calls (start M) in
         record {
@@ -113,7 +114,8 @@ module _ (e : Environment) where
 -- DEMAND 3. After an accepted start, with any input, for every list of grants.
 pub demand3 : (p : Parameters) (image input : List ℕ) (registers cells : List ℤ) (calls : List Call) →
     refusalOf (startChecks p image registers cells) ≡ 0 →
-    Demand3 (record { parameters = p; image = image; input = input }) (heldAfterStart (started p image registers cells)) calls
+    let h = heldAfterStart (started p image registers cells) in
+    Demand3 (record { parameters = p; image = image; input = input }) calls (gives image input h calls) (leaves image input h calls)
 unfolding start
 demand3 p image input registers cells calls h =
     let e : Environment = record { parameters = p; image = image; input = input } in

@@ -26,7 +26,7 @@ heldAfterStart x = record { rec = x .reply .rec; registers = x .registers; cells
 abbrev pub heldAfter : Granted → Held
 heldAfter x = record { rec = x .reply .rec; registers = x .registers; cells = x .cells }
 
--- What each grant of a list gives. "Image and input are the same throughout."
+-- What each grant of a list gives, by the definition. "Image and input are the same throughout."
 unfoldable pub gives : (image input : List ℕ) → Held → List Call → List Granted
 gives image input h [] = []
 gives image input h (c ∷ cs) =
@@ -61,20 +61,12 @@ module _ (e : Environment) where
     pub outs : joined ≡ outputs (Tak e) m
     pub count : h .rec .spent ≡ costs (Tak e) m
 
-  module _ (from : Held) (calls : List Call) where
-    -- the record and memory after the list
-    abbrev last : Held
-    last = leaves (e .image) (e .input) from calls
-
-    -- what each grant gave
-    abbrev given : List Granted
-    given = gives (e .image) (e .input) from calls
-
+  module _ (calls : List Call) (given : List Granted) (last : Held) where
     -- what each grant replied
     abbrev replied : List Reply
     replied = map replyOf given
 
-    -- DEMAND 3 of the list of grants `calls`, which starts from the record and memory `from`.
+    -- DEMAND 3 of the list of grants `calls`: `given` is what each grant gave, `last` the record and memory after the list.
     pub record Demand3 : Type 0 where
       -- "there is exactly one m such that"
       pub m : ℕ
