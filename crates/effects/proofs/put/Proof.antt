@@ -1,0 +1,19 @@
+-- `put` meets its contract. Assumes nothing.
+use borrow.Author.Needs.{needs}
+use denote.Ref.{now}
+use mir.Facts.{toZ-ofZ}
+use Rattle.effects.proofs.CopyLaws.{put-first}
+use Rattle.effects.proofs.put.Statement.{statement}
+use Rattle.effects.proofs.put.Tie as tie
+
+slice-set-from-value : tie.Need-slice-set-from-value
+slice-set-from-value c = search needs
+
+same-length : tie.Need-same-length
+same-length c = search needs
+
+returns : tie.Need-returns
+returns c = rw (toZ-ofZ (c .fits .value)) (put-first (c .args .value) (now (c .args .out)) (c .pre))
+
+pub put-spec : {M : Type 1} → statement M
+put-spec = tie.close (tie.spec slice-set-from-value same-length returns)

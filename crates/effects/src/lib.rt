@@ -1,0 +1,106 @@
+// A plan carried out on the slices that are lent.
+ghost use mathlib.Core.Path.{_≡_};
+ghost use mathlib.Core.List.{[], _∷_};
+ghost use Prim.Native.Nat.{_≤_, _<_};
+ghost use lib.IntN.{pos};
+ghost use lib.ListN.{length, replicate};
+ghost use Rattle.plans.specs.Plans.{registersAfter, cellsAfter, valuesOf};
+ghost use Rattle.effects.specs.Effects.{outputAfter, Indexed};
+use plans::Plan;
+
+// Zero in each place.
+pub fn clear(values: &mut [i32])
+    ensures { λ _. ⌜ now (values .exit) ≡ replicate (length (now (values .entry))) (pos 0) ⌝ }
+{
+    let mut i = 0;
+    while i < values.len() {
+        values[i] = 0;
+        i += 1;
+    }
+}
+
+// The values at the front of the output.
+fn dump(values: &[i32], out: &mut [i32])
+    requires { ⌜ length (now values) ≤ length (now out) ⌝ }
+    ensures { λ _. ⌜ now (out .exit) ≡ outputAfter (now (values .entry)) (now (out .entry)) ⌝ }
+{
+    let mut count = 0;
+    while count < values.len() {
+        out[count] = values[count];
+        count += 1;
+    }
+}
+
+// One value at the front of the output.
+fn put(value: i32, out: &mut [i32])
+    requires { ⌜ 1 ≤ length (now out) ⌝ }
+    ensures { λ _. ⌜ now (out .exit) ≡ outputAfter (value ∷ []) (now (out .entry)) ⌝ }
+{
+    out[0] = value;
+}
+
+// A value to the register or data cell that a word names. For a word of another kind the difference, which wraps, is past every length.
+fn write(to: u32, value: i32, registers: &mut [i32], cells: &mut [i32])
+    requires { ⌜ 6 < to ⌝ }
+    requires { ⌜ Indexed (now registers) (now cells) ⌝ }
+    ensures { λ _. ⌜ now (registers .exit) ≡ registersAfter to value (now (registers .entry)) ⌝ }
+    ensures { λ _. ⌜ now (cells .exit) ≡ cellsAfter to value (now (cells .entry)) ⌝ }
+{
+    let register = std::num::wrapping_sub_u32(to, 0x4000_0000) as usize;
+    if register < registers.len() {
+        registers[register] = value;
+        return;
+    }
+    let cell = std::num::wrapping_sub_u32(to, 0x8000_0000) as usize;
+    if cell < cells.len() {
+        cells[cell] = value;
+    }
+}
+
+// CLEAR_REG, CLEAR_DATA_MEM, DUMP_REG, DUMP_DATA_MEM and OUT.
+fn apply_other(to: u32, value: i32, registers: &mut [i32], cells: &mut [i32], out: &mut [i32])
+    requires { ⌜ to ≤ 6 ⌝ }
+    requires { ⌜ length (valuesOf to value (now registers) (now cells)) ≤ length (now out) ⌝ }
+    ensures { λ _. ⌜ now (registers .exit) ≡ registersAfter to value (now (registers .entry)) ⌝ }
+    ensures { λ _. ⌜ now (cells .exit) ≡ cellsAfter to value (now (cells .entry)) ⌝ }
+    ensures { λ _. ⌜ now (out .exit) ≡ outputAfter (valuesOf to value (now (registers .entry)) (now (cells .entry))) (now (out .entry)) ⌝ }
+{
+    if to == 1 {
+        clear(registers);
+        return;
+    }
+    if to == 2 {
+        clear(cells);
+        return;
+    }
+    if to == 3 {
+        dump(registers, out);
+        return;
+    }
+    if to == 4 {
+        dump(cells, out);
+        return;
+    }
+    if to == 6 {
+        put(value, out);
+    }
+}
+
+// A plan carried out: the registers, the data cells, and the values at the front of the output.
+pub fn apply(plan: Plan, registers: &mut [i32], cells: &mut [i32], out: &mut [i32])
+    requires { ⌜ Indexed (now registers) (now cells) ⌝ }
+    requires { ⌜ length (valuesOf (plan .to) (plan .value) (now registers) (now cells)) ≤ length (now out) ⌝ }
+    ensures { λ _. ⌜ now (registers .exit) ≡ registersAfter (plan .to) (plan .value) (now (registers .entry)) ⌝ }
+    ensures { λ _. ⌜ now (cells .exit) ≡ cellsAfter (plan .to) (plan .value) (now (cells .entry)) ⌝ }
+    ensures { λ _. ⌜ now (out .exit) ≡ outputAfter (valuesOf (plan .to) (plan .value) (now (registers .entry)) (now (cells .entry))) (now (out .entry)) ⌝ }
+{
+    let to = plan.to;
+    if 6 < to {
+        write(to, plan.value, registers, cells);
+        return;
+    }
+    if to == 0 {
+        return;
+    }
+    apply_other(to, plan.value, registers, cells, out)
+}
