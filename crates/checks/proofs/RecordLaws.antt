@@ -1,8 +1,8 @@
 -- The test of a record and its memory, refusal 15. Assumes nothing.
 use Prim.Native.Nat.{ℕ, _+_, _^_, _≤_, _<_}
-use mathlib.Core.Path.{_≡_, refl, sym, ap, _∙_}
 use mathlib.Core.Bool.{Bool, true, false, _&&_}
 use mathlib.Core.List.{List}
+use mathlib.Core.Path.{_≡_, refl, sym, ap, _∙_}
 use native.Mathlib.Numerals.{add-one}
 use native.Mathlib.Omega.{arith}
 use lib.Dec.{leb}
@@ -11,14 +11,15 @@ use lib.ListN.{length, getD, drop, drop-of-length-le}
 use lib.Seq.{drop-cons}
 use lib.Signed.{mag, leZ}
 use borrow.Author.Tests.{le-leb, lt-leb}
+use mir.Facts.{toZ-ofZ, toZ-pos}
 use mir.Syntax.{w32, w64}
 use mir.Val.{SFits, toZ, ofZ}
-use mir.Facts.{toZ-ofZ, toZ-pos}
-use Rattle.model.specs.declared.Record.{Record}
-use Rattle.model.specs.Parameters.{limit, inRange}
 use Rattle.model.specs.Calls.{allInRange, recordFits, accountOf}
+use Rattle.model.specs.Parameters.{limit, inRange}
+use Rattle.model.specs.Step.{environmentOf}
+use Rattle.model.specs.declared.Record.{Record}
 use Rattle.cells.proofs.Integers.{mag-minus}
-use Rattle.checks.specs.Checks.{environmentOf, headFits, numbersFit}
+use Rattle.checks.specs.Checks.{headFits, numbersFit}
 
 -- VALUES
 pub range-end : (m : ℕ) (zs : List ℤ) (i : ℕ) → length zs ≤ i → allInRange m (drop i zs) ≡ true
@@ -87,7 +88,7 @@ module _ (r : Record) (input : ℕ) where
 -- THE RECORD: its numbers, the registers and the data cells.
 module _ (r : Record) (image input : List ℕ) (registers cells : List ℤ) where
   abbrev fits : Bool
-  fits = recordFits (environmentOf r image input) (accountOf r registers cells)
+  fits = recordFits (environmentOf (r .parameters) image input) (accountOf r registers cells)
 
   parts : fits ≡ (numbersFit r (length input) && allInRange (limit (r .parameters .k)) registers && allInRange (limit (r .parameters .k)) cells)
   unfolding recordFits

@@ -1,23 +1,23 @@
 -- The refusals of start and grant, check by check. Assumes nothing.
 use Prim.Native.Nat.{ℕ, _*_, _≤_, _<_}
-use mathlib.Core.Path.{_≡_, sym, _∙_}
 use mathlib.Core.Bool.{true, false, _&&_}
 use mathlib.Core.List.{List, [], _∷_}
+use mathlib.Core.Path.{_≡_, sym, _∙_}
 use lib.Dec.{eqb, leb}
 use lib.IntN.{ℤ}
 use lib.ListN.{length}
 use borrow.Author.Tests.{eq-eqb, ne-eqb, le-leb, lt-leb}
-use Rattle.model.specs.declared.Parameters.{Parameters}
-use Rattle.model.specs.declared.Record.{Record}
-use Rattle.model.specs.Parameters.{Check, _unless_, refusalOf, parameterChecks, Fit}
-use Rattle.model.specs.Load.{lengthCheck}
-use Rattle.model.specs.Images.{imageFits}
-use Rattle.model.specs.Grants.{Account}
-use Rattle.model.specs.Step.{Environment, State}
-use Rattle.model.specs.Calls.{startChecks, recordFits, grantChecks, grantRefusal, accountOf}
 use Rattle.model.proofs.Fits.{all-fit, parameters-numbered, refusal-first, refusal-later, start-numbered, start-accepted}
 use Rattle.model.proofs.GrantKeeps.{record-sound}
-use Rattle.checks.specs.Checks.{environmentOf, cyclesFit}
+use Rattle.model.specs.Calls.{startChecks, recordFits, grantChecks, grantRefusal, accountOf}
+use Rattle.model.specs.Grants.{Account}
+use Rattle.model.specs.Images.{imageFits}
+use Rattle.model.specs.Load.{lengthCheck}
+use Rattle.model.specs.Parameters.{Check, _unless_, refusalOf, parameterChecks, Fit}
+use Rattle.model.specs.Step.{Environment, State, environmentOf}
+use Rattle.model.specs.declared.Parameters.{Parameters}
+use Rattle.model.specs.declared.Record.{Record}
+use Rattle.checks.specs.Checks.{cyclesFit}
 
 -- START
 module _ (p : Parameters) (image : List ℕ) (registers cells : List ℤ) where
@@ -61,7 +61,7 @@ module _ (p : Parameters) (image : List ℕ) (registers cells : List ℤ) where
 -- GRANT
 module _ (r : Record) (image input : List ℕ) (cycles : ℕ) (registers cells : List ℤ) where
   abbrev e : Environment
-  e = environmentOf r image input
+  e = environmentOf (r .parameters) image input
 
   abbrev a : Account State
   a = accountOf r registers cells

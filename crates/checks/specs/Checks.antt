@@ -1,16 +1,10 @@
--- Parts of the checks of start and grant. Only `environmentOf` stands in the contract of a public function.
+-- Parts of the checks of start and grant.
 use Prim.Native.Nat.{ℕ, _+_}
 use mathlib.Core.Bool.{Bool, _&&_}
-use mathlib.Core.List.{List}
 use lib.Dec.{leb}
 use lib.IntN.{ℤ, pos, _-ℤ_}
 use lib.Signed.{leZ}
 use Rattle.model.specs.declared.Record.{Record}
-use Rattle.model.specs.Step.{Environment}
-
--- A run's parameters, image and input, from the record and the lent slices.
-abbrev pub environmentOf : Record → (image input : List ℕ) → Environment
-environmentOf r image input = record { parameters = r .parameters; image = image; input = input }
 
 -- SHR is B-1..S-1.
 abbrev pub headFits : (b s : ℕ) → ℤ → Bool

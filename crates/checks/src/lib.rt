@@ -6,7 +6,8 @@ ghost use lib.IntN.{ℤ};
 ghost use Rattle.model.specs.Parameters.{refusalOf, Fit};
 ghost use Rattle.model.specs.Calls.{startChecks, allInRange, recordFits, grantRefusal, accountOf};
 ghost use Rattle.cells.specs.Cells.{IsLimit};
-ghost use Rattle.checks.specs.Checks.{headFits, numbersFit, cyclesFit, environmentOf};
+ghost use Rattle.model.specs.Step.{environmentOf};
+ghost use Rattle.checks.specs.Checks.{headFits, numbersFit, cyclesFit};
 use cells::limits::limit_of;
 use cells::limits::parameter_refusal;
 use cells::ranges::in_range;
@@ -87,7 +88,7 @@ fn numbers_fit(rec: Record, input: usize) -> bool
 // The record and the memory fit (not 15), whatever the image is.
 fn record_fits(rec: Record, input: &[u8], registers: &[i32], cells: &[i32]) -> bool
     requires { ⌜ Fit (rec .parameters) ⌝ }
-    ensures { λ r. ⌜ ((image : List ℕ) → r ≡ recordFits (environmentOf rec image (now (input .entry))) (accountOf rec (now (registers .entry)) (now (cells .entry)))) ⌝ }
+    ensures { λ r. ⌜ ((image : List ℕ) → r ≡ recordFits (environmentOf (rec .parameters) image (now (input .entry))) (accountOf rec (now (registers .entry)) (now (cells .entry)))) ⌝ }
 {
     if !numbers_fit(rec, input.len()) {
         return false;
@@ -119,7 +120,7 @@ pub fn grant_refusal(
     registers: &[i32],
     cells: &[i32],
 ) -> u32
-    ensures { λ r. ⌜ ((slice : List ℤ) → r ≡ grantRefusal (environmentOf rec (now (image .entry)) (now (input .entry)))
+    ensures { λ r. ⌜ ((slice : List ℤ) → r ≡ grantRefusal (environmentOf (rec .parameters) (now (image .entry)) (now (input .entry)))
         (accountOf rec (now (registers .entry)) (now (cells .entry))) (record { cycles = cycles; slice = slice })) ⌝ }
 {
     let p = rec.parameters;

@@ -1,29 +1,29 @@
 -- What the look finds, as the code comes to it. Assumes nothing.
 use Prim.Native.Nat.{ℕ, _+_, _*_, _-_, _≤_, _<_}
-use mathlib.Core.Path.{_≡_, refl, sym, ap, _∙_}
 use mathlib.Core.Bool.{Bool, true, false, cond}
 use mathlib.Core.List.{List}
+use mathlib.Core.Path.{_≡_, refl, sym, ap, _∙_}
 use native.Mathlib.Omega.{arith}
 use lib.Dec.{ltb}
 use lib.IntN.{ℤ}
 use lib.ListN.{length, take, drop}
 use borrow.Author.Tests.{eq-eqb, ne-eqb, lt-ltb, le-ltb}
+use Rattle.model.proofs.Cells.{cell-fits, empty-head}
+use Rattle.model.specs.Images.{cellFits, imageFits}
+use Rattle.model.specs.Instructions.{rowOf, costOf}
+use Rattle.model.specs.Machine.{Status, running, look, lookAt}
+use Rattle.model.specs.Step.{Environment, State, stateStatus, stepCost, stepValues, environmentOf}
+use Rattle.model.specs.Words.{Cell, cellOf, cellAt, isEmpty}
 use Rattle.model.specs.declared.Ending.the-variants.{Failed, Ended, Paused, OutputFull}
 use Rattle.model.specs.declared.Parameters.{Parameters}
-use Rattle.model.specs.Words.{Cell, cellOf, cellAt, isEmpty}
-use Rattle.model.specs.Instructions.{rowOf, costOf}
-use Rattle.model.specs.Images.{cellFits, imageFits}
-use Rattle.model.specs.Machine.{Status, running, look, lookAt}
-use Rattle.model.specs.Step.{Environment, State, stateStatus, stepCost, stepValues}
-use Rattle.model.proofs.Cells.{cell-fits, empty-head}
-use Rattle.image.specs.declared.decode.Instruction.{Instruction}
 use Rattle.image.specs.Decode.{instructionOf, cellFrom}
-use Rattle.prices.specs.Prices.{valueCount}
-use Rattle.prices.proofs.PriceLaws.{written-count}
-use Rattle.operands.specs.declared.Core.{Core}
+use Rattle.image.specs.declared.decode.Instruction.{Instruction}
 use Rattle.operands.specs.Cores.{stateOf}
+use Rattle.operands.specs.declared.Core.{Core}
+use Rattle.prices.proofs.PriceLaws.{written-count}
+use Rattle.prices.specs.Prices.{valueCount}
 use Rattle.looks.specs.declared.Found.the-variants.{Stops, Runs}
-use Rattle.looks.specs.Looks.{environmentOf, foundOf, foundAt}
+use Rattle.looks.specs.Looks.{foundOf, foundAt}
 
 -- THE STATUS
 module _ (e : Environment) (s : State) where

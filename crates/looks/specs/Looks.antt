@@ -1,17 +1,11 @@
 -- What is found before a step, as the code answers it.
 use Prim.Native.Nat.{ℕ}
-use mathlib.Core.List.{List}
 use lib.ListN.{length}
-use Rattle.model.specs.declared.Parameters.{Parameters}
 use Rattle.model.specs.Machine.{Look, stops, goes, lookAt}
 use Rattle.model.specs.Step.{Environment, State, currentCell, stepCost, stepValues, Tak}
 use Rattle.image.specs.Decode.{instructionOf}
-use Rattle.looks.specs.declared.Found.{Found}
 use Rattle.looks.specs.declared.Found.the-variants.{Stops, Runs}
-
--- What stays the same throughout a run.
-abbrev pub environmentOf : Parameters → (image input : List ℕ) → Environment
-environmentOf p image input = record { parameters = p; image = image; input = input }
+use Rattle.looks.specs.declared.Found.{Found}
 
 -- A look's answer: the ending; or the current instruction, its cost, and how many values it writes.
 abbrev pub foundOf : Environment → State → Look → Found

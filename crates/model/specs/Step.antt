@@ -21,6 +21,9 @@ pub record Environment : Type 0 where
   pub image : List ℕ
   pub input : List ℕ
 
+abbrev pub environmentOf : Parameters → (image input : List ℕ) → Environment
+environmentOf p image input = record { parameters = p; image = image; input = input }
+
 -- "The machine of demand 3 has IAR, IRCR, SHR, input place, registers, data"; the values output so far are its run's. `cells` are the data cells.
 pub record State : Type 0 where
   pub iar : ℕ

@@ -1,12 +1,12 @@
 -- `grant_refusal` meets its contract, check by check. Assumes nothing.
-use mathlib.Core.Path.{_≡_, sym, _∙_}
 use mathlib.Core.Bool.{true}
+use mathlib.Core.Path.{_≡_, sym, _∙_}
 use borrow.Author.Needs.{needs}
 use borrow.Author.Tests.{not-true, not-false}
 use denote.Ref.{now}
-use Rattle.model.specs.Calls.{recordFits, accountOf}
 use Rattle.model.proofs.Fits.{start-accepted}
-use Rattle.checks.specs.Checks.{environmentOf}
+use Rattle.model.specs.Calls.{recordFits, accountOf}
+use Rattle.model.specs.Step.{environmentOf}
 use Rattle.checks.proofs.RefusalLaws.{startRefusal, by-start, by-record, granted-limit, by-input, by-cycles, grant-passed}
 use Rattle.checks.proofs.grant_refusal.Statement.{statement}
 use Rattle.checks.proofs.grant_refusal.Tie as tie
@@ -19,7 +19,7 @@ started e = sym (e .before .start-refusal .ensures) ∙ e .if1 .left
 
 fitting : (e : tie.Else2) →
     let a = e .before .before .before .before .before .before .before .args in
-    recordFits (environmentOf (a .rec) (now (a .image)) (now (a .input))) (accountOf (a .rec) (now (a .registers)) (now (a .cells))) ≡ true
+    recordFits (environmentOf (a .rec .parameters) (now (a .image)) (now (a .input))) (accountOf (a .rec) (now (a .registers)) (now (a .cells))) ≡ true
 fitting e =
     let a = e .before .before .before .before .before .before .before .args in
     sym (e .before .record-fits .ensures (now (a .image))) ∙ not-false _ (e .if2 .left)

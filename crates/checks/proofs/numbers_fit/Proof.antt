@@ -2,9 +2,9 @@
 use mathlib.Core.Path.{_≡_, sym, _∙_}
 use borrow.Author.Needs.{needs}
 use borrow.Author.Tests.{not-true, not-false}
+use mir.Facts.{toZ-ofZ}
 use mir.Syntax.{w64}
 use mir.Val.{SFits}
-use mir.Facts.{toZ-ofZ}
 use Rattle.checks.specs.Checks.{headFits}
 use Rattle.checks.proofs.RecordLaws.{by-iar, by-ircr, by-head, by-spent, by-granted, by-place}
 use Rattle.checks.proofs.numbers_fit.Statement.{statement}

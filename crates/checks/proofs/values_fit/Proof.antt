@@ -1,10 +1,10 @@
 -- `values_fit` meets its contract: what is left to test is the rest of the values. Assumes nothing.
 use Prim.Native.Nat.{_-_}
 use mathlib.Core.Path.{_≡_, refl, sym, _∙_}
+use lib.ListN.{length, drop}
 use borrow.Author.Needs.{needs}
 use borrow.Author.Tests.{not-true, not-false}
 use denote.Ref.{now}
-use lib.ListN.{length, drop}
 use Rattle.model.specs.Calls.{allInRange}
 use Rattle.checks.proofs.RecordLaws.{range-end, range-more, range-not}
 use Rattle.checks.proofs.values_fit.Statement.{statement}

@@ -1,8 +1,8 @@
 -- `look` meets its contract. Assumes nothing.
 use borrow.Author.Needs.{needs}
 use denote.Ref.{now}
+use Rattle.model.specs.Step.{environmentOf}
 use Rattle.operands.specs.Cores.{stateOf}
-use Rattle.looks.specs.Looks.{environmentOf}
 use Rattle.looks.proofs.LookLaws.{Reads, is-fit, found-failed, found-end, found-empty, found-paused, found-full, found-runs}
 use Rattle.looks.proofs.look.Statement.{statement}
 use Rattle.looks.proofs.look.Tie as tie

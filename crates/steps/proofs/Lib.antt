@@ -1,0 +1,4 @@
+pub mod Ready
+pub mod Steps
+pub mod Targets
+pub mod Tops

@@ -1,0 +1,76 @@
+-- `step` meets its contract. Assumes nothing.
+use mathlib.Core.List.{List}
+use mathlib.Core.Path.{_≡_, ap, _∙_}
+use lib.IntN.{ℤ}
+use borrow.Author.Needs.{needs}
+use mir.Facts.{toZ-ofZ}
+use mir.Syntax.{w32}
+use mir.Val.{SFits, toZ, ofZ}
+use Rattle.model.specs.Step.{valueOf}
+use Rattle.effects.specs.Effects.{outputAfter}
+use Rattle.operands.specs.Cores.{stateOf}
+use Rattle.steps.proofs.Ready.{bounded, indexed, choosable, values-are, room-enough, stepped}
+use Rattle.steps.proofs.step.Statement.{statement}
+use Rattle.steps.proofs.step.Tie as tie
+
+first-read : (c : tie.After-read) → toZ w32 (ofZ w32 (c .read .result)) ≡ valueOf (stateOf (c .before .before .before .before .args .at) (c .before .before .before .before .args .registers .now) (c .before .before .before .before .args .cells .now)) (c .before .before .before .before .args .i .first)
+first-read c = let f : SFits w32 (c .read .result) = record { sfits = c .read .ok } in toZ-ofZ f ∙ c .read .ensures
+
+second-read : (c : tie.After-read2) → toZ w32 (ofZ w32 (c .read2 .result)) ≡ valueOf (stateOf (c .before .before .before .before .before .before .before .args .at) (c .before .before .before .before .before .before .before .args .registers .now) (c .before .before .before .before .before .before .before .args .cells .now)) (c .before .before .before .before .before .before .before .args .i .second)
+second-read c = let f : SFits w32 (c .read2 .result) = record { sfits = c .read2 .ok } in toZ-ofZ f ∙ c .read2 .ensures
+
+read-requires : tie.Need-read-requires
+read-requires c κs = bounded (c .before .before .before .pre)
+
+read-requires-2 : tie.Need-read-requires-2
+read-requires-2 c κs = bounded (c .before .before .before .before .before .before .pre)
+
+choose-requires : tie.Need-choose-requires
+choose-requires c κs =
+    let second = c .before .before in
+    let first = second .before .before .before in
+    choosable (first .before .before .before .before .pre) (first-read first) (second-read second)
+
+apply-requires : tie.Need-apply-requires
+apply-requires c κs =
+    let chosen = c .before .before .before in
+    let second = chosen .before .before .before in
+    let first = second .before .before .before in
+    let h = first .before .before .before .before .pre in
+    (indexed h, room-enough h (first-read first) (second-read second) (chosen .choose .ensures))
+
+same-length : tie.Need-same-length
+same-length c = search needs
+
+same-length-2 : tie.Need-same-length-2
+same-length-2 c = search needs
+
+same-length-3 : tie.Need-same-length-3
+same-length-3 c = search needs
+
+returns : tie.Need-returns
+returns c =
+    let applied = c .before .before .before .before in
+    let chosen = applied .before .before .before .before in
+    let second = chosen .before .before .before in
+    let first = second .before .before .before in
+    let start = first .before .before .before .before in
+    let e = first-read first in
+    let f = second-read second in
+    let g = chosen .choose .ensures in (
+      λ image. stepped (start .pre) e f g image (applied .apply .ensures .0) (applied .apply .ensures .1 .0),
+      applied .apply .ensures .1 .1 ∙ ap (λ (l : List ℤ). outputAfter l (start .args .out .now)) (values-are (start .pre) e f g),
+    )
+
+pub step-spec : {M : Type 1} → statement M
+step-spec =
+    tie.close
+    (tie.spec
+    read-requires
+    read-requires-2
+    choose-requires
+    apply-requires
+    same-length
+    same-length-2
+    same-length-3
+    returns)
