@@ -1,18 +1,18 @@
 -- DEMAND 3 of the code's own calls: of every list of calls of grant that meet their contract, from a call of start that met its own and was
 -- accepted. Assumes nothing.
 use Prim.Native.Nat.{ℕ}
-use mathlib.Core.Path.{_≡_, refl, sym, ap, _∙_}
 use mathlib.Core.List.{List, [], _∷_}
+use mathlib.Core.Path.{_≡_, refl, sym, ap, _∙_}
 use lib.IntN.{ℤ}
-use Rattle.model.specs.declared.Parameters.{Parameters}
-use Rattle.model.specs.declared.StartReply.{StartReply}
-use Rattle.model.specs.Grants.{Call}
-use Rattle.model.specs.Calls.{started, Granted, granted}
-use Rattle.model.specs.Demand.{Held, heldAfterStart, gives, leaves, Demand3}
 use Rattle.model.proofs.Demand.{demand3}
 use Rattle.model.proofs.Refusals.{start-number, grant-number}
-use Rattle.machine.specs.Contracts.{StartIs}
+use Rattle.model.specs.Calls.{started, Granted, granted}
+use Rattle.model.specs.Demand.{Held, heldAfterStart, gives, leaves, Demand3}
+use Rattle.model.specs.Grants.{Call}
+use Rattle.model.specs.declared.Parameters.{Parameters}
+use Rattle.model.specs.declared.StartReply.{StartReply}
 use Rattle.machine.specs.Chains.{Chain, nothing, called}
+use Rattle.machine.specs.Contracts.{StartIs}
 
 -- What calls gave and left is what the definition gives and leaves.
 pub record AsDefined (image input : List ℕ) (h : Held) (calls : List Call) (given : List Granted) (last : Held) : Type 0 where

@@ -1,14 +1,16 @@
 -- What start and grant promise: the reply and the buffers after the call are the definitions'. A buffer is marked ₀ before the call, ₁ after it.
 use Prim.Native.Nat.{ℕ}
-use mathlib.Core.Path.{_≡_}
+use mathlib.Core.Bool.{true}
 use mathlib.Core.List.{List}
-use lib.IntN.{ℤ}
+use mathlib.Core.Path.{_≡_}
+use lib.IntN.{ℤ, pos, negsuc}
+use lib.Signed.{leZ}
+use Rattle.model.specs.Calls.{Started, started, Granted, granted, grantRefusal, accountOf, outcomeNumber}
+use Rattle.model.specs.Grants.{Call}
+use Rattle.model.specs.declared.GrantReply.{GrantReply}
 use Rattle.model.specs.declared.Parameters.{Parameters}
 use Rattle.model.specs.declared.Record.{Record}
 use Rattle.model.specs.declared.StartReply.{StartReply}
-use Rattle.model.specs.declared.GrantReply.{GrantReply}
-use Rattle.model.specs.Grants.{Call}
-use Rattle.model.specs.Calls.{Started, started, Granted, granted, grantRefusal, accountOf, outcomeNumber}
 
 -- Start's promise.
 module _ (p : Parameters) (image : List ℕ) (registers₀ cells₀ : List ℤ) where
