@@ -41,18 +41,22 @@ fn cell_value(index: u32, cells: &[i32]) -> i32
     0
 }
 
-// What a word says where there are no registers but the special ones.
+// What a word says where there are no registers but the special ones. Numbers come first, which jumps and SET have.
 fn other_value(w: u32, at: Core, cells: &[i32]) -> i32
     requires { ⌜ Bounded at [] ⌝ }
     ensures { λ r. ⌜ r ≡ valueOf (stateOf at [] (now (cells .entry))) w ⌝ }
 {
     let k = kind(w);
-    match k {
-        1 => special_value(content(w), at),
-        2 => cell_value(content(w), cells),
-        3 => number(w),
-        _ => 0,
+    if k == 3 {
+        return number(w);
     }
+    if k == 2 {
+        return cell_value(content(w), cells);
+    }
+    if k == 1 {
+        return special_value(content(w), at);
+    }
+    0
 }
 
 // What a word of a cell says. One test finds a register by kind and index, which is most often what is read.

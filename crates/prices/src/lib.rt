@@ -139,10 +139,13 @@ pub fn cost(i: Instruction, p: Parameters, prices: &[u32]) -> u64
     price * (p.s as u64)
 }
 
-// How many values an instruction writes.
+// How many values an instruction writes: most often none.
 pub fn value_count(number: u32, p: Parameters) -> usize
     ensures { λ r. ⌜ r ≡ valueCount p (rowOf number .operation) ⌝ }
 {
+    if 6 < number {
+        return 0;
+    }
     match number {
         3 => p.n as usize,
         4 => p.s as usize,

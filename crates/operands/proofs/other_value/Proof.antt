@@ -12,57 +12,58 @@ use Rattle.operands.proofs.other_value.Tie as tie
 kind-requires : tie.Need-kind-requires
 kind-requires c κs = search needs
 
-content-requires : tie.Need-content-requires
-content-requires c κs = search needs
-
-special-value-requires : tie.Need-special-value-requires
-special-value-requires c κs = search needs
-
-content-requires-2 : tie.Need-content-requires-2
-content-requires-2 c κs = search needs
-
-cell-value-requires : tie.Need-cell-value-requires
-cell-value-requires c κs = search needs
-
 number-requires : tie.Need-number-requires
 number-requires c κs = search needs
 
 returns : tie.Need-returns
 returns c =
-    let f : SFits w32 (c .special-value .result) = record { sfits = c .special-value .ok } in
-    let a = c .before .before .before .before .args in
-    let w = a .w in
-    toZ-ofZ f ∙ c .special-value .ensures ∙ rw (c .before .content .ensures) (register-alone (a .at) [] (a .cells .now) _ ∙ sym (word-register _ w (sym (c .before .before .before .kind .ensures) ∙ c .before .before .match .keys1)))
+    let f : SFits w32 (c .number .result) = record { sfits = c .number .ok } in
+    let k = c .before .before in
+    toZ-ofZ f ∙ c .number .ensures ∙ sym (word-number _ (k .before .args .w) (sym (k .kind .ensures) ∙ c .before .if1 .taken))
+
+content-requires : tie.Need-content-requires
+content-requires c κs = search needs
+
+cell-value-requires : tie.Need-cell-value-requires
+cell-value-requires c κs = search needs
 
 returns-2 : tie.Need-returns-2
 returns-2 c =
     let f : SFits w32 (c .cell-value .result) = record { sfits = c .cell-value .ok } in
-    let w = c .before .before .before .before .args .w in
-    toZ-ofZ f ∙ c .cell-value .ensures ∙ rw (c .before .content2 .ensures) (sym (word-cell _ w (sym (c .before .before .before .kind .ensures) ∙ c .before .before .match .keys2)))
+    let k = c .before .before .before .before in
+    toZ-ofZ f ∙ c .cell-value .ensures ∙ rw (c .before .content .ensures) (sym (word-cell _ (k .before .args .w) (sym (k .kind .ensures) ∙ c .before .before .if2 .taken)))
+
+content-requires-2 : tie.Need-content-requires-2
+content-requires-2 c κs = search needs
+
+special-value-requires : tie.Need-special-value-requires
+special-value-requires c κs = search needs
 
 returns-3 : tie.Need-returns-3
 returns-3 c =
-    let f : SFits w32 (c .number .result) = record { sfits = c .number .ok } in
-    let w = c .before .before .before .args .w in
-    toZ-ofZ f ∙ c .number .ensures ∙ sym (word-number _ w (sym (c .before .before .kind .ensures) ∙ c .before .match .keys3))
+    let f : SFits w32 (c .special-value .result) = record { sfits = c .special-value .ok } in
+    let k = c .before .before .before .before .before in
+    let a = k .before .args in
+    toZ-ofZ f ∙ c .special-value .ensures
+    ∙ rw (c .before .content2 .ensures) (register-alone (a .at) [] (a .cells .now) _ ∙ sym (word-register _ (a .w) (sym (k .kind .ensures) ∙ c .before .before .if3 .taken)))
 
 returns-4 : tie.Need-returns-4
 returns-4 c =
-    let no = c .match .rest in
-    let k = c .before .kind .ensures in
-    sym (word-other _ (c .before .before .args .w) (λ e. no .0 .0 .1 (k ∙ e)) (λ e. no .0 .1 (k ∙ e)) (λ e. no .1 (k ∙ e)))
+    let k = c .before .before .before in
+    let e = k .kind .ensures in
+    sym (word-other _ (k .before .args .w) (λ q. c .if3 .left (e ∙ q)) (λ q. c .before .if2 .left (e ∙ q)) (λ q. c .before .before .if1 .left (e ∙ q)))
 
 pub other-value-spec : {M : Type 1} → statement M
 other-value-spec =
     tie.close
     (tie.spec
     kind-requires
-    content-requires
-    special-value-requires
-    content-requires-2
-    cell-value-requires
     number-requires
     returns
+    content-requires
+    cell-value-requires
     returns-2
+    content-requires-2
+    special-value-requires
     returns-3
     returns-4)

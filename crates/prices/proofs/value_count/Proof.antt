@@ -1,10 +1,16 @@
 -- `value_count` meets its contract. Assumes nothing.
 use mathlib.Core.Path.{sym}
+use native.Mathlib.Omega.{arith}
+use borrow.Author.Needs.{needs}
 use Rattle.model.specs.Instructions.{rowOf}
 use Rattle.prices.proofs.PriceLaws.{values-none}
-use borrow.Author.Needs.{needs}
 use Rattle.prices.proofs.value_count.Statement.{statement}
 use Rattle.prices.proofs.value_count.Tie as tie
+
+returns : tie.Need-returns
+returns c =
+    let l = c .if1 .taken in
+    sym (values-none (c .before .args .p) (c .before .args .number) (λ e. omega arith) (λ e. omega arith) (λ e. omega arith))
 
 cast-result : tie.Need-cast-result
 cast-result c = search needs
@@ -12,23 +18,23 @@ cast-result c = search needs
 cast-result-2 : tie.Need-cast-result-2
 cast-result-2 c = search needs
 
-returns : tie.Need-returns
-unfolding rowOf
-returns c = rw (c .before .match .keys1)
-
 returns-2 : tie.Need-returns-2
 unfolding rowOf
-returns-2 c = rw (c .before .match .keys2)
+returns-2 c = rw (c .before .match .keys1)
 
 returns-3 : tie.Need-returns-3
 unfolding rowOf
-returns-3 c = rw (c .match .keys3)
+returns-3 c = rw (c .before .match .keys2)
 
 returns-4 : tie.Need-returns-4
-returns-4 c =
+unfolding rowOf
+returns-4 c = rw (c .match .keys3)
+
+returns-5 : tie.Need-returns-5
+returns-5 c =
     let no = c .match .rest in
-    sym (values-none (c .before .args .p) (c .before .args .number) (no .0 .0 .1) (no .0 .1) (no .1))
+    sym (values-none (c .before .before .args .p) (c .before .before .args .number) (no .0 .0 .1) (no .0 .1) (no .1))
 
 pub value-count-spec : {M : Type 1} → statement M
 value-count-spec =
-    tie.close (tie.spec cast-result cast-result-2 returns returns-2 returns-3 returns-4)
+    tie.close (tie.spec returns cast-result cast-result-2 returns-2 returns-3 returns-4 returns-5)
