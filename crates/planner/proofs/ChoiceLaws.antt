@@ -1,24 +1,18 @@
 -- What joins the code of each instruction with its row. Assumes nothing.
 use Prim.Native.Nat.{ℕ, zero, suc, _≤_, _<_}
 use mathlib.Core.Bool.{Bool, true, false, not, _&&_, Bool·beq}
-use mathlib.Core.List.{List}
-use mathlib.Core.Path.{_≡_, refl, ap, sym, _∙_}
+use mathlib.Core.Path.{_≡_, refl}
 use native.Mathlib.Omega.{arith}
 use lib.IntN.{ℤ, pos}
 use lib.Signed.{quotZ, remZ}
 use borrow.Author.Tests.{ne-eqb}
 use Rattle.model.proofs.Fits.{by-cond}
 use Rattle.model.specs.Arithmetic.{Answer, value, code, checked, divide, remainder, negation, logic}
-use Rattle.model.specs.Instructions.{rowOf}
 use Rattle.model.specs.Parameters.{inRange, eqZ, isBoolean}
-use Rattle.model.specs.Words.{Cell}
-use Rattle.model.specs.declared.Parameters.{Parameters}
 use Rattle.arithmetic.specs.Answers.{computed}
 use Rattle.arithmetic.specs.declared.Computed.{Computed}
 use Rattle.operands.specs.declared.Core.{Core}
 use Rattle.plans.specs.Plans.{settledPlan, answeredPlan}
-use Rattle.plans.specs.declared.Plan.{Plan}
-use Rattle.planner.specs.Choices.{planOf}
 
 -- A return code other than 0, as the operations give it.
 abbrev pub Coded : Answer → Type 0
@@ -58,11 +52,6 @@ beq-true false = refl
 pub beq-false : (b : Bool) → Bool·beq b false ≡ not b
 beq-false true = refl
 beq-false false = refl
-
--- The row of a number that was found by a match.
-pub chosen : (p : Parameters) (input : List ℕ) (at : Core) (registers cells : List ℤ) (c : Cell) (x y : ℤ) {n number : ℕ} → number ≡ n → {r : Plan} →
-    r ≡ planOf p input at registers cells (rowOf n .operation) c x y → r ≡ planOf p input at registers cells (rowOf number .operation) c x y
-chosen p input at registers cells c x y e h = h ∙ ap (λ (k : ℕ). planOf p input at registers cells (rowOf k .operation) c x y) (sym e)
 
 -- None of 1 to n, as the last arm of a match knows it.
 abbrev pub NoneTo : ℕ → ℕ → Type 0
