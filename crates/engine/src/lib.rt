@@ -47,6 +47,9 @@ pub fn run(
                 count,
             },
             Found::Runs(offer) => {
+                let from = count;
+                spent += offer.cost;
+                count += offer.values;
                 at = step(
                     offer.instruction,
                     p,
@@ -55,10 +58,8 @@ pub fn run(
                     input,
                     registers,
                     cells,
-                    &mut out[count..],
+                    &mut out[from..],
                 );
-                spent += offer.cost;
-                count += offer.values;
             }
         }
     }

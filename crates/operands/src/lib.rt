@@ -6,7 +6,6 @@ ghost use lib.ListN.{getD};
 ghost use Rattle.model.specs.Step.{registerValue, valueOf};
 ghost use Rattle.operands.specs.Cores.{stateOf, Bounded};
 use image::words::content;
-use image::words::kind;
 use image::words::number;
 
 // IAR, IRCR, the input place, and `top`, which is SHR + 1 and so never negative.
@@ -41,19 +40,19 @@ fn cell_value(index: u32, cells: &[i32]) -> i32
     0
 }
 
-// What a word says where there are no registers but the special ones. Numbers come first, which jumps and SET have.
+// What a word says where there are no registers but the special ones. Numbers come first, which jumps and SET have; the kind is tested by
+// its bounds, since a jump by its value is slower.
 fn other_value(w: u32, at: Core, cells: &[i32]) -> i32
     requires { ⌜ Bounded at [] ⌝ }
     ensures { λ r. ⌜ r ≡ valueOf (stateOf at [] (now (cells .entry))) w ⌝ }
 {
-    let k = kind(w);
-    if k == 3 {
+    if 0xC000_0000 <= w {
         return number(w);
     }
-    if k == 2 {
+    if 0x8000_0000 <= w {
         return cell_value(content(w), cells);
     }
-    if k == 1 {
+    if 0x4000_0000 <= w {
         return special_value(content(w), at);
     }
     0

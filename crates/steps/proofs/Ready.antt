@@ -1,7 +1,7 @@
 -- What a step's calls ask, from what is known before it. Assumes nothing.
 use Prim.Native.Nat.{ℕ, _≤_}
 use mathlib.Core.List.{List, []}
-use mathlib.Core.Path.{_≡_}
+use mathlib.Core.Path.{_≡_, ap}
 use native.Mathlib.Omega.{arith}
 use lib.IntN.{ℤ}
 use lib.ListN.{length}
@@ -13,7 +13,7 @@ use Rattle.model.specs.Instructions.{rowOf}
 use Rattle.model.specs.Parameters.{between}
 use Rattle.model.specs.Step.{State, environmentOf, valueOf, execute, settled}
 use Rattle.model.specs.declared.Parameters.{Parameters}
-use Rattle.effects.specs.Effects.{Indexed}
+use Rattle.effects.specs.Effects.{Indexed, outputAfter}
 use Rattle.image.proofs.FitLaws.{is-limit}
 use Rattle.image.specs.Decode.{cellFrom}
 use Rattle.image.specs.declared.decode.Instruction.{Instruction}
@@ -23,7 +23,7 @@ use Rattle.planner.specs.Choices.{planOf, Choosable}
 use Rattle.plans.specs.Plans.{registersAfter, cellsAfter, valuesOf, planned}
 use Rattle.plans.specs.declared.Plan.{Plan}
 use Rattle.steps.specs.Steppable.{written, Steppable}
-use Rattle.steps.proofs.Steps.{Steady, plan-step, plan-values}
+use Rattle.steps.proofs.Steps.{Steady, plan-step, plan-values, plan-nowhere}
 use Rattle.steps.proofs.Targets.{names-target}
 use Rattle.steps.proofs.Tops.{top-between}
 
@@ -106,3 +106,17 @@ module _ {i : Instruction} {p : Parameters} {m : ℕ} {at : Core} {input : List 
     unfolding planned
     stepped image r c =
         rw (r, c) (rw chosen (plan-step (environmentOf p image input) at registers cells (rowOf (i .number) .operation) (cellFrom i) (steady image)))
+
+    -- A plan that fails leaves the registers, the data cells and the output.
+    module _ (n : ¬ (plan .next .ircr ≡ 0)) where
+      nowhere : plan .to ≡ 0
+      nowhere = (rw (← chosen) at (plan-nowhere (environmentOf p [] input) at registers cells (rowOf (i .number) .operation) (cellFrom i))) n
+
+      pub registers-left : registers ≡ registersAfter (plan .to) (plan .value) registers
+      registers-left = rw nowhere
+
+      pub cells-left : cells ≡ cellsAfter (plan .to) (plan .value) cells
+      cells-left = rw nowhere
+
+      pub output-left : (out : List ℤ) → out ≡ outputAfter (written i at registers cells) out
+      output-left out = ap (λ (l : List ℤ). outputAfter l out) (rw nowhere at values-are)

@@ -9,6 +9,7 @@ use lib.IntN.{ℤ, pos, natAbs, predℤ, _-ℤ_}
 use lib.ListN.{length, getD, set, drop}
 use lib.Signed.{nonNeg}
 use borrow.Author.Tests.{eqb-true, eqb-false, ne-eqb}
+use Rattle.model.proofs.Fits.{by-cond}
 use Rattle.model.specs.Arithmetic.{Answer, value, code}
 use Rattle.model.specs.Instructions.{Operation, clearRegisters, clearCells, dumpRegisters, dumpCells, inputs, outputs, pushes, pops, skips, idles, writes, jumps, jumpsOn, first, second, third}
 use Rattle.model.specs.Parameters.{limit, isBoolean, isTrue}
@@ -344,3 +345,53 @@ module _ (e : Environment) (at : Core) (registers cells : List ℤ) where
   plan-values (writes to f) c h = answered-values registers cells at at (argumentAt to c) (f (limit (e .parameters .k)) (valueOf s (c .first)) (valueOf s (c .second))) (h .target)
   plan-values (jumps test) c h = taken-values registers cells (e .parameters .t) at (valueOf s (c .first)) (test (valueOf s (c .second)) (valueOf s (c .third)))
   plan-values (jumpsOn b) c h = boolean-values registers cells (e .parameters .t) at (valueOf s (c .second)) (valueOf s (c .first)) (Bool·beq (isTrue (valueOf s (c .second))) b)
+
+  -- A plan that fails goes nowhere.
+  abbrev Nowhere : Plan → Type 0
+  Nowhere q = ¬ (q .next .ircr ≡ 0) → q .to ≡ 0
+
+  written-nowhere : (w : ℕ) (v : ℤ) (moved : Core) → Nowhere (writtenPlan w v moved)
+  unfolding writtenPlan
+  written-nowhere w v moved n = absurd (n refl)
+
+  failed-nowhere : (k : ℕ) → Nowhere (failedPlan k at)
+  unfolding failedPlan
+  failed-nowhere k n = refl
+
+  answered-nowhere : (w : ℕ) (moved : Core) (a : Answer) → Nowhere (answeredPlan w moved at a)
+  answered-nowhere w moved (value v) = written-nowhere w v moved
+  answered-nowhere w moved (code k) = failed-nowhere k
+
+  jump-nowhere : (t : ℕ) (z : ℤ) → Nowhere (jumpPlan t z at)
+  unfolding jumpPlan
+  jump-nowhere t z = by-cond Nowhere (nonNeg z && ltb (natAbs z) t) _ (failedPlan 1 at) (λ h n. refl) (λ h. failed-nowhere 1)
+
+  taken-nowhere : (t : ℕ) (z : ℤ) (b : Bool) → Nowhere (takenPlan b t z at)
+  taken-nowhere t z b = by-cond Nowhere b (jumpPlan t z at) (keptPlan at) (λ h. jump-nowhere t z) (λ h. written-nowhere 0 (pos 0) at)
+
+  pub plan-nowhere : (o : Operation) (c : Cell) → Nowhere (planAt o c)
+  unfolding inputPlan pushPlan popPlan
+  plan-nowhere clearRegisters c = written-nowhere 1 (pos 0) at
+  plan-nowhere clearCells c = written-nowhere 2 (pos 0) at
+  plan-nowhere dumpRegisters c = written-nowhere 3 (pos 0) at
+  plan-nowhere dumpCells c = written-nowhere 4 (pos 0) at
+  plan-nowhere inputs c =
+      let rest = drop (at .place) (e .input) in
+      let token = tokenOf (drop (blanksOf rest) rest) in
+      answered-nowhere (c .first) (movedTo (at .place + blanksOf rest + length token) at) (inputAnswer (limit (e .parameters .k)) token)
+  plan-nowhere outputs c = written-nowhere 6 (valueOf s (c .first)) at
+  plan-nowhere pushes c =
+      by-cond Nowhere (eqb (at .top) (e .parameters .s)) (failedPlan 1 at) _ (λ h. failed-nowhere 1)
+      (λ h. written-nowhere (wordOf 2 (at .top)) _ (withTop (at .top + 1) at))
+  plan-nowhere pops c =
+      by-cond Nowhere (eqb (at .top) (e .parameters .b)) (failedPlan 1 at) _ (λ h. failed-nowhere 1)
+      (λ h. written-nowhere (c .first) _ (withTop (at .top - 1) at))
+  plan-nowhere skips c = jump-nowhere (e .parameters .t) (pos (at .iar + 2))
+  plan-nowhere idles c = written-nowhere 0 (pos 0) at
+  plan-nowhere (writes to f) c =
+      answered-nowhere (argumentAt to c) at (f (limit (e .parameters .k)) (valueOf s (c .first)) (valueOf s (c .second)))
+  plan-nowhere (jumps test) c = taken-nowhere (e .parameters .t) (valueOf s (c .first)) (test (valueOf s (c .second)) (valueOf s (c .third)))
+  plan-nowhere (jumpsOn b) c =
+      by-cond Nowhere (isBoolean (valueOf s (c .second)))
+      (takenPlan (Bool·beq (isTrue (valueOf s (c .second))) b) (e .parameters .t) (valueOf s (c .first)) at) (failedPlan 2 at)
+      (λ h. taken-nowhere (e .parameters .t) (valueOf s (c .first)) (Bool·beq (isTrue (valueOf s (c .second))) b)) (λ h. failed-nowhere 2)

@@ -16,7 +16,7 @@ use operands::Core;
 use operands::read;
 use planner::choose;
 
-// One step: the operands, then the plan, then what it does. `out` is the part of the output slice behind the values already written.
+// One step: the operands, then the plan, then what it does, unless it fails. `out` is the part of the output slice behind the values already written.
 pub fn step(
     i: Instruction,
     p: Parameters,
@@ -34,6 +34,10 @@ pub fn step(
     let x = read(i.first, at, registers, cells);
     let y = read(i.second, at, registers, cells);
     let plan = choose(i, x, y, p, m, at, registers, cells, input);
+    let next = plan.next;
+    if next.ircr != 0 {
+        return next;
+    }
     apply(plan, registers, cells, out);
-    plan.next
+    next
 }

@@ -63,34 +63,34 @@ returns c = stopped (c .before .before .before .before .loop .inv .0) (c .before
 enum-known-found-2 : tie.Need-enum-known-found-2 Inv-loop μ-loop
 enum-known-found-2 c = search needs
 
-mul-step : tie.Need-mul-step Inv-loop μ-loop
-mul-step c = let i = c .before .before .before .before .before .before .loop .inv .1 in record { fits = omega (arith, i .within, i .long, long-enough (c .before .before .before .before .before .before .before .before .before .before)) }
-
-sub-step : tie.Need-sub-step Inv-loop μ-loop
-sub-step c = c .before .before .before .before .before .before .loop .inv .1 .within
-
-part-step-start : tie.Need-part-step-start Inv-loop μ-loop
-part-step-start c = c .before .before .before .before .before .before .loop .inv .1 .within
-
-part-step-end : tie.Need-part-step-end Inv-loop μ-loop
-part-step-end c = le-refl _
-
-step-requires : tie.Need-step-requires Inv-loop μ-loop
-step-requires c κs = let at = c .before .before .before .before .before .before .before .loop .inv in steppable (at .0) (at .1) (runs (c .before .before .before .before))
-
 add-spent : tie.Need-add-spent Inv-loop μ-loop
 add-spent c =
-    let found = c .before .before .before .before .before .before .before .before .before in
+    let found = c .before .before in
     let at = found .before .before .before .loop .inv in
     let start = found .before .before .before .before .before .before .before in
     record { fits = omega (arith, cost-paid (at .0) (at .1) (runs found), start .fits .granted .fits) }
 
 add-count : tie.Need-add-count Inv-loop μ-loop
 add-count c =
-    let found = c .before .before .before .before .before .before .before .before .before .before in
+    let found = c .before .before .before in
     let at = found .before .before .before .loop .inv in
     let start = found .before .before .before .before .before .before .before in
     record { fits = omega (arith, room-for (at .0) (at .1) (runs found), at .1 .long, long-enough start) }
+
+mul-step : tie.Need-mul-step Inv-loop μ-loop
+mul-step c = let i = c .before .before .before .before .before .before .before .before .loop .inv .1 in record { fits = omega (arith, i .within, i .long, long-enough (c .before .before .before .before .before .before .before .before .before .before .before .before)) }
+
+sub-step : tie.Need-sub-step Inv-loop μ-loop
+sub-step c = c .before .before .before .before .before .before .before .before .loop .inv .1 .within
+
+part-step-start : tie.Need-part-step-start Inv-loop μ-loop
+part-step-start c = c .before .before .before .before .before .before .before .before .loop .inv .1 .within
+
+part-step-end : tie.Need-part-step-end Inv-loop μ-loop
+part-step-end c = le-refl _
+
+step-requires : tie.Need-step-requires Inv-loop μ-loop
+step-requires c κs = let at = c .before .before .before .before .before .before .before .before .before .loop .inv in steppable (at .0) (at .1) (runs (c .before .before .before .before .before .before))
 
 loop-less : tie.Need-loop-less Inv-loop μ-loop
 loop-less c =
@@ -102,7 +102,7 @@ loop-again : tie.Need-loop-again Inv-loop μ-loop
 loop-again c =
     let found = c .before .before .before .before .before .before .before .before .before .before in
     let at = found .before .before .before .loop .inv in
-    let stepped = c .before .before .before .before .before in
+    let stepped = c .before .before .before in
     (at .0, goes-on (at .0) (at .1) (runs found) _ (stepped .step .ensures .0 _) (stepped .step .ensures .1) refl)
 
 pub run-spec : {M : Type 1} → statement M
@@ -121,12 +121,12 @@ run-spec =
     same-length-3
     returns
     enum-known-found-2
+    add-spent
+    add-count
     mul-step
     sub-step
     part-step-start
     part-step-end
     step-requires
-    add-spent
-    add-count
     loop-less
     loop-again)

@@ -1,6 +1,7 @@
 -- `other_value` meets its contract. Assumes nothing.
 use mathlib.Core.List.{[]}
 use mathlib.Core.Path.{sym, _∙_}
+use native.Mathlib.Omega.{arith}
 use borrow.Author.Needs.{needs}
 use mir.Facts.{toZ-ofZ}
 use mir.Syntax.{w32}
@@ -9,17 +10,14 @@ use Rattle.operands.proofs.OperandLaws.{register-alone, word-register, 
 use Rattle.operands.proofs.other_value.Statement.{statement}
 use Rattle.operands.proofs.other_value.Tie as tie
 
-kind-requires : tie.Need-kind-requires
-kind-requires c κs = search needs
-
 number-requires : tie.Need-number-requires
 number-requires c κs = search needs
 
 returns : tie.Need-returns
 returns c =
     let f : SFits w32 (c .number .result) = record { sfits = c .number .ok } in
-    let k = c .before .before in
-    toZ-ofZ f ∙ c .number .ensures ∙ sym (word-number _ (k .before .args .w) (sym (k .kind .ensures) ∙ c .before .if1 .taken))
+    let s = c .before .before in
+    toZ-ofZ f ∙ c .number .ensures ∙ sym (word-number _ (s .args .w) (omega (arith, s .fits .w .fits, c .before .if1 .taken)))
 
 content-requires : tie.Need-content-requires
 content-requires c κs = search needs
@@ -30,8 +28,9 @@ cell-value-requires c κs = search needs
 returns-2 : tie.Need-returns-2
 returns-2 c =
     let f : SFits w32 (c .cell-value .result) = record { sfits = c .cell-value .ok } in
-    let k = c .before .before .before .before in
-    toZ-ofZ f ∙ c .cell-value .ensures ∙ rw (c .before .content .ensures) (sym (word-cell _ (k .before .args .w) (sym (k .kind .ensures) ∙ c .before .before .if2 .taken)))
+    let s = c .before .before .before .before in
+    toZ-ofZ f ∙ c .cell-value .ensures
+    ∙ rw (c .before .content .ensures) (sym (word-cell _ (s .args .w) (omega (arith, c .before .before .before .if1 .left, c .before .before .if2 .taken))))
 
 content-requires-2 : tie.Need-content-requires-2
 content-requires-2 c κs = search needs
@@ -42,22 +41,21 @@ special-value-requires c κs = search needs
 returns-3 : tie.Need-returns-3
 returns-3 c =
     let f : SFits w32 (c .special-value .result) = record { sfits = c .special-value .ok } in
-    let k = c .before .before .before .before .before in
-    let a = k .before .args in
+    let s = c .before .before .before .before .before in
     toZ-ofZ f ∙ c .special-value .ensures
-    ∙ rw (c .before .content2 .ensures) (register-alone (a .at) [] (a .cells .now) _ ∙ sym (word-register _ (a .w) (sym (k .kind .ensures) ∙ c .before .before .if3 .taken)))
+    ∙ rw (c .before .content2 .ensures) (register-alone (s .args .at) [] (s .args .cells .now) _
+    ∙ sym (word-register _ (s .args .w) (omega (arith, c .before .before .before .if2 .left, c .before .before .if3 .taken))))
 
 returns-4 : tie.Need-returns-4
 returns-4 c =
-    let k = c .before .before .before in
-    let e = k .kind .ensures in
-    sym (word-other _ (k .before .args .w) (λ q. c .if3 .left (e ∙ q)) (λ q. c .before .if2 .left (e ∙ q)) (λ q. c .before .before .if1 .left (e ∙ q)))
+    let s = c .before .before .before in
+    let l = c .if3 .left in
+    sym (word-other _ (s .args .w) (λ q. omega arith) (λ q. omega arith) (λ q. omega arith))
 
 pub other-value-spec : {M : Type 1} → statement M
 other-value-spec =
     tie.close
     (tie.spec
-    kind-requires
     number-requires
     returns
     content-requires

@@ -9,14 +9,17 @@ use mir.Val.{SFits, toZ, ofZ}
 use Rattle.model.specs.Step.{valueOf}
 use Rattle.effects.specs.Effects.{outputAfter}
 use Rattle.operands.specs.Cores.{stateOf}
-use Rattle.steps.proofs.Ready.{bounded, indexed, choosable, values-are, room-enough, stepped}
+use Rattle.steps.proofs.Ready.{bounded, indexed, choosable, values-are, room-enough, stepped, registers-left, cells-left, output-left}
 use Rattle.steps.proofs.step.Statement.{statement}
 use Rattle.steps.proofs.step.Tie as tie
 
-first-read : (c : tie.After-read) → toZ w32 (ofZ w32 (c .read .result)) ≡ valueOf (stateOf (c .before .before .before .before .args .at) (c .before .before .before .before .args .registers .now) (c .before .before .before .before .args .cells .now)) (c .before .before .before .before .args .i .first)
+-- The values of the first two words, as they were read.
+first-read : (c : tie.After-read) → let a = c .before .before .before .before .args in
+    toZ w32 (ofZ w32 (c .read .result)) ≡ valueOf (stateOf (a .at) (a .registers .now) (a .cells .now)) (a .i .first)
 first-read c = let f : SFits w32 (c .read .result) = record { sfits = c .read .ok } in toZ-ofZ f ∙ c .read .ensures
 
-second-read : (c : tie.After-read2) → toZ w32 (ofZ w32 (c .read2 .result)) ≡ valueOf (stateOf (c .before .before .before .before .before .before .before .args .at) (c .before .before .before .before .before .before .before .args .registers .now) (c .before .before .before .before .before .before .before .args .cells .now)) (c .before .before .before .before .before .before .before .args .i .second)
+second-read : (c : tie.After-read2) → let a = c .before .before .before .before .before .before .before .args in
+    toZ w32 (ofZ w32 (c .read2 .result)) ≡ valueOf (stateOf (a .at) (a .registers .now) (a .cells .now)) (a .i .second)
 second-read c = let f : SFits w32 (c .read2 .result) = record { sfits = c .read2 .ok } in toZ-ofZ f ∙ c .read2 .ensures
 
 read-requires : tie.Need-read-requires
@@ -31,27 +34,50 @@ choose-requires c κs =
     let first = second .before .before .before in
     choosable (first .before .before .before .before .pre) (first-read first) (second-read second)
 
-apply-requires : tie.Need-apply-requires
-apply-requires c κs =
-    let chosen = c .before .before .before in
-    let second = chosen .before .before .before in
-    let first = second .before .before .before in
-    let h = first .before .before .before .before .pre in
-    (indexed h, room-enough h (first-read first) (second-read second) (chosen .choose .ensures))
-
 same-length : tie.Need-same-length
 same-length c = search needs
 
 same-length-2 : tie.Need-same-length-2
 same-length-2 c = search needs
 
+returns : tie.Need-returns
+returns c =
+    let chosen = c .before .before .before in
+    let second = chosen .before .before .before in
+    let first = second .before .before .before in
+    let start = first .before .before .before .before in
+    let e = first-read first in
+    let f = second-read second in
+    let g = chosen .choose .ensures in
+    let h = start .pre in (
+      λ image. stepped h e f g image (registers-left h e f g (c .if1 .taken)) (cells-left h e f g (c .if1 .taken)),
+      output-left h e f g (c .if1 .taken) (start .args .out .now),
+    )
+
+apply-requires : tie.Need-apply-requires
+apply-requires c κs =
+    let chosen = c .before .before .before .before .before .before in
+    let second = chosen .before .before .before in
+    let first = second .before .before .before in
+    let start = first .before .before .before .before in
+    let e = first-read first in
+    let f = second-read second in
+    let g = chosen .choose .ensures in
+    (indexed (start .pre), room-enough (start .pre) e f g)
+
 same-length-3 : tie.Need-same-length-3
 same-length-3 c = search needs
 
-returns : tie.Need-returns
-returns c =
-    let applied = c .before .before .before .before in
-    let chosen = applied .before .before .before .before in
+same-length-4 : tie.Need-same-length-4
+same-length-4 c = search needs
+
+same-length-5 : tie.Need-same-length-5
+same-length-5 c = search needs
+
+returns-2 : tie.Need-returns-2
+returns-2 c =
+    let applied = c .before .before .before in
+    let chosen = applied .before .before .before .before .before .before .before in
     let second = chosen .before .before .before in
     let first = second .before .before .before in
     let start = first .before .before .before .before in
@@ -69,8 +95,11 @@ step-spec =
     read-requires
     read-requires-2
     choose-requires
-    apply-requires
     same-length
     same-length-2
+    returns
+    apply-requires
     same-length-3
-    returns)
+    same-length-4
+    same-length-5
+    returns-2)
