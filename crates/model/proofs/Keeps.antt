@@ -178,7 +178,7 @@ module _ (e : Environment) (l : Limits (e .parameters)) (s : State) (g : Going e
 module _ (e : Environment) (l : Limits (e .parameters)) (s : State) (g : Going e s) where
   stores-lands : (w : ℕ) (a : Answer) → Good (limitOf e) a → Lands e (stores w s a)
   stores-lands w (value v) h = next-lands e l (store w v s) (store-going e l s g w v h)
-  stores-lands w (code k) h = h
+  stores-lands w (code k) h = h .1
 
   push-lands : (w : ℕ) → Readable (e .parameters) w → Lands e (push (e .parameters) w s)
   unfolding push

@@ -28,10 +28,10 @@ mag-range zero z l h = absurd (omega arith)
 mag-range (suc m) (pos n) l h = lt-ltb n (suc m) h
 mag-range (suc m) (negsuc n) l h = and-both (le-leb n m (omega arith)) refl
 
--- A value in range, or a return code, which is at most 3.
+-- A value in range, or a return code, which is 1 to 3.
 abbrev pub Good : ℕ → Answer → Type 0
 Good m (value v) = mag v < m
-Good m (code k) = k ≤ 3
+Good m (code k) = (1 ≤ k) × (k ≤ 3)
 
 -- THE CLASSES
 module _ (m : ℕ) (one : 1 ≤ m) where

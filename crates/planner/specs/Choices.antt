@@ -1,20 +1,21 @@
 -- The plan of each class of operation.
 use Prim.Native.Nat.{ℕ, _+_, _≤_}
-use mathlib.Core.Path.{_≡_}
 use mathlib.Core.Bool.{Bool·beq}
 use mathlib.Core.List.{List}
+use mathlib.Core.Path.{_≡_}
 use lib.IntN.{ℤ, pos}
 use lib.ListN.{length}
-use Rattle.model.specs.declared.Parameters.{Parameters}
-use Rattle.model.specs.Parameters.{limit, isTrue}
-use Rattle.model.specs.Words.{Cell}
 use Rattle.model.specs.Instructions.{Operation, clearRegisters, clearCells, dumpRegisters, dumpCells, inputs, outputs, pushes, pops, skips, idles, writes, jumps, jumpsOn}
+use Rattle.model.specs.Parameters.{limit, isTrue}
 use Rattle.model.specs.Step.{valueOf, argumentAt}
+use Rattle.model.specs.Words.{Cell}
+use Rattle.model.specs.declared.Parameters.{Parameters}
+use Rattle.arithmetic.specs.Answers.{computed}
 use Rattle.cells.specs.Cells.{IsLimit, Within}
-use Rattle.operands.specs.declared.Core.{Core}
 use Rattle.operands.specs.Cores.{stateOf, Bounded}
+use Rattle.operands.specs.declared.Core.{Core}
+use Rattle.plans.specs.Plans.{writtenPlan, keptPlan, settledPlan, jumpPlan, takenPlan, booleanPlan, pushPlan, popPlan, inputPlan}
 use Rattle.plans.specs.declared.Plan.{Plan}
-use Rattle.plans.specs.Plans.{writtenPlan, keptPlan, answeredPlan, jumpPlan, takenPlan, booleanPlan, pushPlan, popPlan, inputPlan}
 
 module _ (p : Parameters) (input : List ℕ) (at : Core) (registers cells : List ℤ) where
   -- As `execute` of model has them: x and y are the values of the first two arguments.
@@ -29,7 +30,7 @@ module _ (p : Parameters) (input : List ℕ) (at : Core) (registers cells : List
   planOf pops c x y = popPlan (c .first) (p .b) at cells
   planOf skips c x y = jumpPlan (p .t) (pos (at .iar + 2)) at
   planOf idles c x y = keptPlan at
-  planOf (writes to f) c x y = answeredPlan (argumentAt to c) at at (f (limit (p .k)) x y)
+  planOf (writes to f) c x y = settledPlan (argumentAt to c) (computed (f (limit (p .k)) x y)) at
   planOf (jumps test) c x y = takenPlan (test y (valueOf (stateOf at registers cells) (c .third))) (p .t) x at
   planOf (jumpsOn b) c x y = booleanPlan y (Bool·beq (isTrue y) b) (p .t) x at
 

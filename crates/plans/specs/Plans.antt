@@ -6,13 +6,13 @@ use lib.Dec.{eqb, ltb}
 use lib.IntN.{ℤ, pos, natAbs}
 use lib.ListN.{length, getD, set, drop, replicate}
 use lib.Signed.{nonNeg}
-use Rattle.model.specs.Parameters.{isBoolean}
-use Rattle.model.specs.Words.{kindOf, contentOf, wordOf}
 use Rattle.model.specs.Arithmetic.{Answer, value, code}
-use Rattle.model.specs.Step.{State, blanksOf, tokenOf, inputAnswer}
+use Rattle.model.specs.Parameters.{isBoolean}
+use Rattle.model.specs.Step.{State, withIRCR, blanksOf, tokenOf, inputAnswer}
+use Rattle.model.specs.Words.{kindOf, contentOf, wordOf}
 use Rattle.arithmetic.specs.declared.Computed.{Computed}
-use Rattle.operands.specs.declared.Core.{Core}
 use Rattle.operands.specs.Cores.{stateOf}
+use Rattle.operands.specs.declared.Core.{Core}
 use Rattle.plans.specs.declared.Plan.{Plan}
 
 -- WHAT A PLAN DOES
@@ -28,9 +28,12 @@ cellsAfter to v cs = cond (eqb to 2) (replicate (length cs) (pos 0)) (cond (eqb 
 abbrev pub valuesOf : (to : ℕ) → ℤ → (registers cells : List ℤ) → List ℤ
 valuesOf to v rs cs = cond (eqb to 3) rs (cond (eqb to 4) cs (cond (eqb to 6) (v ∷ []) []))
 
--- The state after it.
-unfoldable pub planned : Plan → (registers cells : List ℤ) → State
-planned p rs cs = stateOf (p .next) (registersAfter (p .to) (p .value) rs) (cellsAfter (p .to) (p .value) cs)
+-- The state after it, from where the machine stands: "With another code it sets IRCR and changes nothing else".
+unfoldable pub planned : Core → Plan → (registers cells : List ℤ) → State
+planned c p rs cs =
+    cond (eqb (p .next .ircr) 0)
+    (stateOf (p .next) (registersAfter (p .to) (p .value) rs) (cellsAfter (p .to) (p .value) cs))
+    (withIRCR (p .next .ircr) (stateOf c rs cs))
 
 -- PLANS
 -- "With code 0 it sets IRCR to 0 and raises IAR by one"; a value goes somewhere,
@@ -41,13 +44,13 @@ writtenPlan to v c = record { value = v; to = to; next = record { iar = c .iar +
 abbrev pub keptPlan : Core → Plan
 keptPlan c = writtenPlan 0 (pos 0) c
 
--- "With another code it sets IRCR and changes nothing else".
+-- A code is set.
 unfoldable pub failedPlan : ℕ → Core → Plan
 failedPlan k c = record { value = pos 0; to = 0; next = record { iar = c .iar; ircr = k; top = c .top; place = c .place } }
 
 -- A value or a return code, as the code computes it,
 abbrev pub settledPlan : (to : ℕ) → Computed → Core → Plan
-settledPlan to a c = cond (eqb (a .code) 0) (writtenPlan to (a .value) c) (failedPlan (a .code) c)
+settledPlan to a c = record { value = a .value; to = to; next = record { iar = c .iar + 1; ircr = a .code; top = c .top; place = c .place } }
 
 -- and as the definitions answer it, with the machine at `moved` where it succeeds.
 abbrev pub answeredPlan : (to : ℕ) (moved c : Core) → Answer → Plan

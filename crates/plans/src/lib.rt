@@ -12,7 +12,7 @@ use numbers::reading::read_number;
 use operands::Core;
 use text::tokens::next_token;
 
-// A value, where it goes, and where the machine stands after the step; a failing step has its code in `next.ircr` and goes nowhere.
+// A value, where it goes, and where the machine stands after the step. A failing step has its code in `next.ircr`, and nothing else counts.
 // `to` is the word of a register or data cell; or 0, nothing; or the number of CLEAR_REG, CLEAR_DATA_MEM, DUMP_REG, DUMP_DATA_MEM or OUT.
 pub struct Plan {
     pub value: i32,
@@ -61,16 +61,21 @@ pub fn fail(code: u32, at: Core) -> Plan
     }
 }
 
-// The value of a computation goes somewhere, or its code is set.
+// The value of a computation goes somewhere, or its code is set. Without a choice here IAR does not wait for the value.
 pub fn settle(to: u32, answer: Computed, at: Core) -> Plan
     requires { ⌜ at .iar ≤ 4096 ⌝ }
     ensures { λ r. ⌜ r ≡ settledPlan to answer at ⌝ }
 {
-    let code = answer.code;
-    if code != 0 {
-        return fail(code, at);
+    Plan {
+        value: answer.value,
+        to,
+        next: Core {
+            iar: at.iar + 1,
+            ircr: answer.code,
+            top: at.top,
+            place: at.place,
+        },
     }
-    put(to, answer.value, at)
 }
 
 // A jump: valid targets are 0..T-1.

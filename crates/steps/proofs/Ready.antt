@@ -1,16 +1,19 @@
 -- What a step's calls ask, from what is known before it. Assumes nothing.
-use Prim.Native.Nat.{ℕ, _≤_}
+use Prim.Native.Nat.{ℕ, _≤_, _<_}
 use mathlib.Core.List.{List, []}
 use mathlib.Core.Path.{_≡_, ap}
 use native.Mathlib.Omega.{arith}
 use lib.IntN.{ℤ}
 use lib.ListN.{length}
+use lib.Signed.{mag}
+use borrow.Author.Tests.{eq-eqb, ne-eqb}
 use Rattle.model.proofs.Cells.{CellReadable, cell-readable}
 use Rattle.model.proofs.Fits.{both, is-between, Limits, limits}
 use Rattle.model.proofs.Keeps.{value-mag}
+use Rattle.model.proofs.Ranges.{WritesRange, row-range}
 use Rattle.model.specs.Images.{cellFits}
-use Rattle.model.specs.Instructions.{rowOf}
-use Rattle.model.specs.Parameters.{between}
+use Rattle.model.specs.Instructions.{Operation, clearRegisters, clearCells, dumpRegisters, dumpCells, inputs, outputs, pushes, pops, skips, idles, writes, jumps, jumpsOn, rowOf}
+use Rattle.model.specs.Parameters.{limit, between}
 use Rattle.model.specs.Step.{State, environmentOf, valueOf, execute, settled}
 use Rattle.model.specs.declared.Parameters.{Parameters}
 use Rattle.effects.specs.Effects.{Indexed, outputAfter}
@@ -23,7 +26,7 @@ use Rattle.planner.specs.Choices.{planOf, Choosable}
 use Rattle.plans.specs.Plans.{registersAfter, cellsAfter, valuesOf, planned}
 use Rattle.plans.specs.declared.Plan.{Plan}
 use Rattle.steps.specs.Steppable.{written, Steppable}
-use Rattle.steps.proofs.Steps.{Steady, plan-step, plan-values, plan-nowhere}
+use Rattle.steps.proofs.Steps.{Steady, plan-step, plan-values, plan-silent, Codes}
 use Rattle.steps.proofs.Targets.{names-target}
 use Rattle.steps.proofs.Tops.{top-between}
 
@@ -77,6 +80,27 @@ module _ {i : Instruction} {p : Parameters} {m : ℕ} {at : Core} {input : List 
         place = h .sound .place;
       }
 
+  first-within : mag (valueOf s (i .first)) < limit (p .k)
+  first-within = value-mag (environmentOf p [] input) known s (h .sound) (i .first) (readable .first)
+
+  second-within : mag (valueOf s (i .second)) < limit (p .k)
+  second-within = value-mag (environmentOf p [] input) known s (h .sound) (i .second) (readable .second)
+
+  codes : (image : List ℕ) (o : Operation) → WritesRange (limit (p .k)) o → Codes (environmentOf p image input) at registers cells o (cellFrom i)
+  codes image clearRegisters r = tt
+  codes image clearCells r = tt
+  codes image dumpRegisters r = tt
+  codes image dumpCells r = tt
+  codes image inputs r = tt
+  codes image outputs r = tt
+  codes image pushes r = tt
+  codes image pops r = tt
+  codes image skips r = tt
+  codes image idles r = tt
+  codes image (writes to f) r = r (valueOf s (i .first)) (valueOf s (i .second)) first-within second-within
+  codes image (jumps test) r = tt
+  codes image (jumpsOn b) r = tt
+
   steady : (image : List ℕ) → Steady (environmentOf p image input) at registers cells (rowOf (i .number) .operation) (cellFrom i)
   steady image =
       record {
@@ -85,6 +109,7 @@ module _ {i : Instruction} {p : Parameters} {m : ℕ} {at : Core} {input : List 
         low = top-between (p .b) (at .top) (h .sound .low);
         high = bounded .top;
         target = names-target p (cellFrom i) (h .instruction);
+        codes = codes image (rowOf (i .number) .operation) (row-range (p .k) (i .number) (known .k-low));
       }
 
   -- The plan that was chosen, with the values as they were read.
@@ -99,24 +124,30 @@ module _ {i : Instruction} {p : Parameters} {m : ℕ} {at : Core} {input : List 
     pub room-enough : length (valuesOf (plan .to) (plan .value) registers cells) ≤ room
     room-enough = rw values-are (h .room-for)
 
-    pub stepped : (image : List ℕ) → {registers′ cells′ : List ℤ} → registers′ ≡ registersAfter (plan .to) (plan .value) registers →
+    planned-is : (image : List ℕ) → planned at plan registers cells
+        ≡ settled s (execute (environmentOf p image input) (rowOf (i .number) .operation) (cellFrom i) s)
+    planned-is image =
+        rw chosen (plan-step (environmentOf p image input) at registers cells (rowOf (i .number) .operation) (cellFrom i) (steady image))
+
+    -- A plan that succeeds.
+    pub stepped : plan .next .ircr ≡ 0 → (image : List ℕ) → {registers′ cells′ : List ℤ} → registers′ ≡ registersAfter (plan .to) (plan .value) registers →
         cells′ ≡ cellsAfter (plan .to) (plan .value) cells →
         stateOf (plan .next) registers′ cells′
         ≡ settled s (execute (environmentOf p image input) (rowOf (i .number) .operation) (cellFrom i) s)
     unfolding planned
-    stepped image r c =
-        rw (r, c) (rw chosen (plan-step (environmentOf p image input) at registers cells (rowOf (i .number) .operation) (cellFrom i) (steady image)))
+    stepped z image r c = rw (r, c) ((rw (eq-eqb (plan .next .ircr) 0 z) at planned-is image))
 
-    -- A plan that fails leaves the registers, the data cells and the output.
+    -- A plan that fails: IRCR is set, and the registers, the data cells and the output stay.
     module _ (n : ¬ (plan .next .ircr ≡ 0)) where
-      nowhere : plan .to ≡ 0
-      nowhere = (rw (← chosen) at (plan-nowhere (environmentOf p [] input) at registers cells (rowOf (i .number) .operation) (cellFrom i))) n
-
-      pub registers-left : registers ≡ registersAfter (plan .to) (plan .value) registers
-      registers-left = rw nowhere
-
-      pub cells-left : cells ≡ cellsAfter (plan .to) (plan .value) cells
-      cells-left = rw nowhere
+      pub failed : (image : List ℕ) →
+          stateOf (record { iar = at .iar; ircr = plan .next .ircr; top = at .top; place = at .place }) registers cells
+          ≡ settled s (execute (environmentOf p image input) (rowOf (i .number) .operation) (cellFrom i) s)
+      unfolding planned
+      failed image =
+          (rw (ne-eqb (plan .next .ircr) 0 n) at planned-is image)
 
       pub output-left : (out : List ℤ) → out ≡ outputAfter (written i at registers cells) out
-      output-left out = ap (λ (l : List ℤ). outputAfter l out) (rw nowhere at values-are)
+      output-left out =
+          ap (λ (l : List ℤ). outputAfter l out)
+          (plan-silent (environmentOf p [] input) at registers cells (rowOf (i .number) .operation) (cellFrom i)
+          (rw chosen at n))

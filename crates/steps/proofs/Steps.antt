@@ -9,17 +9,18 @@ use lib.IntN.{ℤ, pos, natAbs, predℤ, _-ℤ_}
 use lib.ListN.{length, getD, set, drop}
 use lib.Signed.{nonNeg}
 use borrow.Author.Tests.{eqb-true, eqb-false, ne-eqb}
-use Rattle.model.proofs.Fits.{by-cond}
+use Rattle.model.proofs.Ranges.{Good}
 use Rattle.model.specs.Arithmetic.{Answer, value, code}
 use Rattle.model.specs.Instructions.{Operation, clearRegisters, clearCells, dumpRegisters, dumpCells, inputs, outputs, pushes, pops, skips, idles, writes, jumps, jumpsOn, first, second, third}
 use Rattle.model.specs.Parameters.{limit, isBoolean, isTrue}
 use Rattle.model.specs.Step.{Environment, State, withIAR, withIRCR, withSHR, withPlace, withRegisters, withCells, registerValue, valueOf, store, argumentAt, succeeds, fails, next, stores, jumpTo, push, pop, blanksOf, tokenOf, inputAnswer, input, execute, settled, writtenBy}
 use Rattle.model.specs.Words.{Cell, kindOf, contentOf, numberOf, wordOf}
 use Rattle.model.specs.declared.Parameters.{Parameters}
+use Rattle.arithmetic.specs.Answers.{computed}
 use Rattle.operands.specs.Cores.{stateOf}
 use Rattle.operands.specs.declared.Core.{Core}
 use Rattle.planner.specs.Choices.{planOf}
-use Rattle.plans.specs.Plans.{registersAfter, cellsAfter, valuesOf, planned, writtenPlan, keptPlan, failedPlan, answeredPlan, jumpPlan, takenPlan, booleanPlan, withTop, movedTo, pushPlan, popPlan, inputPlan}
+use Rattle.plans.specs.Plans.{registersAfter, cellsAfter, valuesOf, planned, writtenPlan, keptPlan, failedPlan, settledPlan, answeredPlan, jumpPlan, takenPlan, booleanPlan, withTop, movedTo, pushPlan, popPlan, inputPlan}
 use Rattle.plans.specs.declared.Plan.{Plan}
 use Rattle.steps.proofs.Tops.{raised-top, top-raised, lowered-top, head-of, empty-top}
 
@@ -55,10 +56,10 @@ module _ (registers cells : List ℤ) where
   values-named w v h = rw (ne-eqb w 3 (λ e. omega arith), ne-eqb w 4 (λ e. omega arith), ne-eqb w 6 (λ e. omega arith))
 
   -- A VALUE WRITTEN
-  pub written-step : (at : Core) (w : ℕ) (v : ℤ) → Named w →
-      planned (writtenPlan w v at) registers cells ≡ settled (stateOf at registers cells) (next (store w v (stateOf at registers cells)))
+  pub written-step : (c at : Core) (w : ℕ) (v : ℤ) → Named w →
+      planned c (writtenPlan w v at) registers cells ≡ settled (stateOf at registers cells) (next (store w v (stateOf at registers cells)))
   unfolding planned writtenPlan store
-  written-step at w v h = rw (registers-named w v h, cells-named w v h) (go (eqb (kindOf w) 1) (eqb (kindOf w) 2) refl refl)
+  written-step c at w v h = rw (registers-named w v h, cells-named w v h) (go (eqb (kindOf w) 1) (eqb (kindOf w) 2) refl refl)
     where
       s : State
       s = stateOf at registers cells
@@ -76,20 +77,27 @@ module _ (registers cells : List ℤ) where
       go false false d e = refl
 
   -- A CODE SET
-  pub failed-step : (at : Core) (k : ℕ) → planned (failedPlan k at) registers cells ≡ withIRCR k (stateOf at registers cells)
+  pub failed-step : (at : Core) (k : ℕ) → planned at (failedPlan k at) registers cells ≡ withIRCR k (stateOf at registers cells)
   unfolding planned failedPlan
-  failed-step at k = refl
+  failed-step at k = go (eqb k 0)
+    where
+      failed : State
+      failed = withIRCR k (stateOf at registers cells)
+
+      go : (b : Bool) → cond b failed failed ≡ failed
+      go true = refl
+      go false = refl
 
   -- NEITHER
-  pub kept-step : (at : Core) → planned (keptPlan at) registers cells ≡ settled (stateOf at registers cells) (next (stateOf at registers cells))
+  pub kept-step : (at : Core) → planned at (keptPlan at) registers cells ≡ settled (stateOf at registers cells) (next (stateOf at registers cells))
   unfolding planned writtenPlan
   kept-step at = refl
 
   -- A value or a code, with the machine moved on in the input.
   pub answered-step : (at : Core) (n w : ℕ) (a : Answer) → Named w →
-      planned (answeredPlan w (movedTo n at) at a) registers cells
+      planned at (answeredPlan w (movedTo n at) at a) registers cells
       ≡ settled (stateOf at registers cells) (stores w (withPlace n (stateOf at registers cells)) a)
-  answered-step at n w (value v) h = written-step (movedTo n at) w v h
+  answered-step at n w (value v) h = written-step at (movedTo n at) w v h
   answered-step at n w (code k) h = failed-step at k
 
   pub answered-values : (at moved : Core) (w : ℕ) (a : Answer) → Named w →
@@ -98,9 +106,16 @@ module _ (registers cells : List ℤ) where
   answered-values at moved w (value v) h = values-named w v h
   answered-values at moved w (code k) h = refl
 
+  -- A value or a code, as the code computes it.
+  pub settled-step : (m : ℕ) (at : Core) (w : ℕ) (a : Answer) → Good m a → Named w →
+      planned at (settledPlan w (computed a) at) registers cells ≡ settled (stateOf at registers cells) (stores w (stateOf at registers cells) a)
+  unfolding planned writtenPlan
+  settled-step m at w (value v) g h = written-step at at w v h
+  settled-step m at w (code k) g h = rw (ne-eqb k 0 (omega (arith, g .0)))
+
   -- JUMPS
   pub jump-step : (e : Environment) (at : Core) (z : ℤ) →
-      planned (jumpPlan (e .parameters .t) z at) registers cells ≡ settled (stateOf at registers cells) (jumpTo e z (stateOf at registers cells))
+      planned at (jumpPlan (e .parameters .t) z at) registers cells ≡ settled (stateOf at registers cells) (jumpTo e z (stateOf at registers cells))
   unfolding planned jumpPlan jumpTo failedPlan
   jump-step e at z = go (nonNeg z && ltb (natAbs z) (e .parameters .t))
     where
@@ -110,7 +125,7 @@ module _ (registers cells : List ℤ) where
       valid : Plan
       valid = record { value = pos 0; to = 0; next = record { iar = natAbs z; ircr = 0; top = at .top; place = at .place } }
 
-      go : (b : Bool) → planned (cond b valid (failedPlan 1 at)) registers cells ≡ settled s (cond b (succeeds (withIAR (natAbs z) s)) (fails 1))
+      go : (b : Bool) → planned at (cond b valid (failedPlan 1 at)) registers cells ≡ settled s (cond b (succeeds (withIAR (natAbs z) s)) (fails 1))
       go true = refl
       go false = refl
 
@@ -126,7 +141,7 @@ module _ (registers cells : List ℤ) where
       go false = refl
 
   pub taken-step : (e : Environment) (at : Core) (z : ℤ) (b : Bool) →
-      planned (takenPlan b (e .parameters .t) z at) registers cells
+      planned at (takenPlan b (e .parameters .t) z at) registers cells
       ≡ settled (stateOf at registers cells) (cond b (jumpTo e z (stateOf at registers cells)) (next (stateOf at registers cells)))
   taken-step e at z true = jump-step e at z
   taken-step e at z false = kept-step at
@@ -137,7 +152,7 @@ module _ (registers cells : List ℤ) where
   taken-values t at z false = refl
 
   pub boolean-step : (e : Environment) (at : Core) (y z : ℤ) (b : Bool) →
-      planned (booleanPlan y b (e .parameters .t) z at) registers cells
+      planned at (booleanPlan y b (e .parameters .t) z at) registers cells
       ≡ settled (stateOf at registers cells)
       (cond (isBoolean y) (cond b (jumpTo e z (stateOf at registers cells)) (next (stateOf at registers cells))) (fails 2))
   boolean-step e at y z b = go (isBoolean y)
@@ -145,7 +160,7 @@ module _ (registers cells : List ℤ) where
       s : State
       s = stateOf at registers cells
 
-      go : (a : Bool) → planned (cond a (takenPlan b (e .parameters .t) z at) (failedPlan 2 at)) registers cells
+      go : (a : Bool) → planned at (cond a (takenPlan b (e .parameters .t) z at) (failedPlan 2 at)) registers cells
           ≡ settled s (cond a (cond b (jumpTo e z s) (next s)) (fails 2))
       go true = taken-step e at z b
       go false = failed-step at 2
@@ -196,16 +211,16 @@ module _ (registers cells : List ℤ) where
       go false e = raised-other at (pos (at .top)) w (eqb-false w (wordOf 1 258) e)
 
   -- The word of a data cell.
-  cell-word : (d : ℕ) (v : ℤ) (at : Core) → d ≤ 4096 →
-      planned (writtenPlan (wordOf 2 d) v at) registers cells ≡ settled (stateOf at registers cells) (next (withCells (set cells d v) (stateOf at registers cells)))
+  cell-word : (d : ℕ) (v : ℤ) (c at : Core) → d ≤ 4096 →
+      planned c (writtenPlan (wordOf 2 d) v at) registers cells ≡ settled (stateOf at registers cells) (next (withCells (set cells d v) (stateOf at registers cells)))
   unfolding store
-  cell-word d v at h =
+  cell-word d v c at h =
       let k : kindOf (wordOf 2 d) ≡ 2 = omega arith in
-      let c : contentOf (wordOf 2 d) ≡ d = omega arith in
-      written-step at (wordOf 2 d) v (omega arith) ∙ rw (k, c)
+      let d-is : contentOf (wordOf 2 d) ≡ d = omega arith in
+      written-step c at (wordOf 2 d) v (omega arith) ∙ rw (k, d-is)
 
   pub push-step : (p : Parameters) (at : Core) (w : ℕ) → at .top ≤ 4096 →
-      planned (pushPlan w (valueOf (stateOf at registers cells) w) (p .s) at) registers cells
+      planned at (pushPlan w (valueOf (stateOf at registers cells) w) (p .s) at) registers cells
       ≡ settled (stateOf at registers cells) (push p w (stateOf at registers cells))
   unfolding push pushPlan
   push-step p at w k = rw (raised-top (at .top), raised-value at w) (go (eqb (at .top) (p .s)))
@@ -220,10 +235,10 @@ module _ (registers cells : List ℤ) where
       v = valueOf raised w
 
       go : (b : Bool) →
-          planned (cond b (failedPlan 1 at) (writtenPlan (wordOf 2 (at .top)) v (withTop (at .top + 1) at))) registers cells
+          planned at (cond b (failedPlan 1 at) (writtenPlan (wordOf 2 (at .top)) v (withTop (at .top + 1) at))) registers cells
           ≡ settled s (cond b (fails 1) (next (withCells (set cells (at .top) v) raised)))
       go true = failed-step at 1
-      go false = cell-word (at .top) v (withTop (at .top + 1) at) k ∙ rw (top-raised (at .top))
+      go false = cell-word (at .top) v at (withTop (at .top + 1) at) k ∙ rw (top-raised (at .top))
 
   pub push-values : (p : Parameters) (at : Core) (w : ℕ) (v : ℤ) → at .top ≤ 4096 →
       valuesOf (pushPlan w v (p .s) at .to) (pushPlan w v (p .s) at .value) registers cells ≡ []
@@ -249,7 +264,7 @@ module _ (registers cells : List ℤ) where
       go false false = refl
 
   pub pop-step : (p : Parameters) (at : Core) (w : ℕ) → Named w → p .b ≤ at .top →
-      planned (popPlan w (p .b) at cells) registers cells ≡ settled (stateOf at registers cells) (pop p w (stateOf at registers cells))
+      planned at (popPlan w (p .b) at cells) registers cells ≡ settled (stateOf at registers cells) (pop p w (stateOf at registers cells))
   unfolding pop popPlan
   pop-step p at w n l = rw (empty-top (p .b) (at .top)) (go (eqb (at .top) (p .b)) refl)
     where
@@ -257,7 +272,7 @@ module _ (registers cells : List ℤ) where
       s = stateOf at registers cells
 
       go : (b : Bool) → eqb (at .top) (p .b) ≡ b →
-          planned (cond b (failedPlan 1 at) (writtenPlan w (getD cells (at .top - 1) (pos 0)) (withTop (at .top - 1) at))) registers cells
+          planned at (cond b (failedPlan 1 at) (writtenPlan w (getD cells (at .top - 1) (pos 0)) (withTop (at .top - 1) at))) registers cells
           ≡ settled s (cond b (fails 1) (next (withSHR (predℤ (s .shr)) (store w (getD cells (natAbs (s .shr)) (pos 0)) s))))
       go true e = failed-step at 1
       go false e =
@@ -265,7 +280,7 @@ module _ (registers cells : List ℤ) where
           let o : 1 ≤ at .top = omega arith in
           let h = head-of (at .top) o in
           let q = lowered-top (at .top) o in
-          written-step (withTop (at .top - 1) at) w (getD cells (at .top - 1) (pos 0)) n
+          written-step at (withTop (at .top - 1) at) w (getD cells (at .top - 1) (pos 0)) n
           ∙ rw (h, q, store-head w (getD cells (at .top - 1) (pos 0)) (pos (at .top - 1) -ℤ pos 1) s)
 
   pub pop-values : (p : Parameters) (at : Core) (w : ℕ) → Named w →
@@ -282,7 +297,7 @@ module _ (registers cells : List ℤ) where
 
   -- IN
   pub input-step : (e : Environment) (at : Core) (w : ℕ) → Named w →
-      planned (inputPlan w (limit (e .parameters .k)) at (e .input)) registers cells
+      planned at (inputPlan w (limit (e .parameters .k)) at (e .input)) registers cells
       ≡ settled (stateOf at registers cells) (input e w (stateOf at registers cells))
   unfolding input inputPlan
   input-step e at w n =
@@ -306,15 +321,32 @@ module _ (e : Environment) (at : Core) (registers cells : List ℤ) where
   abbrev planAt : Operation → Cell → Plan
   planAt o c = planOf (e .parameters) (e .input) at registers cells o c (valueOf s (c .first)) (valueOf s (c .second))
 
-  -- The counts of registers and data cells, the stack's bounds, and targets that are named.
+  -- What an operation computes is a value in range, or a code of 1 to 3.
+  abbrev pub Codes : Operation → Cell → Type 0
+  Codes clearRegisters c = Unit {0}
+  Codes clearCells c = Unit {0}
+  Codes dumpRegisters c = Unit {0}
+  Codes dumpCells c = Unit {0}
+  Codes inputs c = Unit {0}
+  Codes outputs c = Unit {0}
+  Codes pushes c = Unit {0}
+  Codes pops c = Unit {0}
+  Codes skips c = Unit {0}
+  Codes idles c = Unit {0}
+  Codes (writes to f) c = Good (limit (e .parameters .k)) (f (limit (e .parameters .k)) (valueOf s (c .first)) (valueOf s (c .second)))
+  Codes (jumps test) c = Unit {0}
+  Codes (jumpsOn b) c = Unit {0}
+
+  -- The counts of registers and data cells, the stack's bounds, targets that are named, and codes that are none but 0 for success.
   pub record Steady (o : Operation) (c : Cell) : Type 0 where
     pub register-count : length registers ≡ e .parameters .n
     pub cell-count : length cells ≡ e .parameters .s
     pub low : e .parameters .b ≤ at .top
     pub high : at .top ≤ 4096
     pub target : NamesTarget o c
+    pub codes : Codes o c
 
-  pub plan-step : (o : Operation) (c : Cell) → Steady o c → planned (planAt o c) registers cells ≡ settled s (execute e o c s)
+  pub plan-step : (o : Operation) (c : Cell) → Steady o c → planned at (planAt o c) registers cells ≡ settled s (execute e o c s)
   unfolding execute planned writtenPlan
   plan-step clearRegisters c h = rw (h .register-count)
   plan-step clearCells c h = rw (h .cell-count)
@@ -326,7 +358,8 @@ module _ (e : Environment) (at : Core) (registers cells : List ℤ) where
   plan-step pops c h = pop-step registers cells (e .parameters) at (c .first) (h .target) (h .low)
   plan-step skips c h = jump-step registers cells e at (pos (at .iar + 2))
   plan-step idles c h = kept-step registers cells at
-  plan-step (writes to f) c h = answered-step registers cells at (at .place) (argumentAt to c) (f (limit (e .parameters .k)) (valueOf s (c .first)) (valueOf s (c .second))) (h .target)
+  plan-step (writes to f) c h =
+      settled-step registers cells (limit (e .parameters .k)) at (argumentAt to c) (f (limit (e .parameters .k)) (valueOf s (c .first)) (valueOf s (c .second))) (h .codes) (h .target)
   plan-step (jumps test) c h = taken-step registers cells e at (valueOf s (c .first)) (test (valueOf s (c .second)) (valueOf s (c .third)))
   plan-step (jumpsOn b) c h = boolean-step registers cells e at (valueOf s (c .second)) (valueOf s (c .first)) (Bool·beq (isTrue (valueOf s (c .second))) b)
 
@@ -342,56 +375,23 @@ module _ (e : Environment) (at : Core) (registers cells : List ℤ) where
   plan-values pops c h = pop-values registers cells (e .parameters) at (c .first) (h .target)
   plan-values skips c h = jump-values registers cells (e .parameters .t) at (pos (at .iar + 2))
   plan-values idles c h = refl
-  plan-values (writes to f) c h = answered-values registers cells at at (argumentAt to c) (f (limit (e .parameters .k)) (valueOf s (c .first)) (valueOf s (c .second))) (h .target)
+  plan-values (writes to f) c h = values-named registers cells (argumentAt to c) _ (h .target)
   plan-values (jumps test) c h = taken-values registers cells (e .parameters .t) at (valueOf s (c .first)) (test (valueOf s (c .second)) (valueOf s (c .third)))
   plan-values (jumpsOn b) c h = boolean-values registers cells (e .parameters .t) at (valueOf s (c .second)) (valueOf s (c .first)) (Bool·beq (isTrue (valueOf s (c .second))) b)
 
-  -- A plan that fails goes nowhere.
-  abbrev Nowhere : Plan → Type 0
-  Nowhere q = ¬ (q .next .ircr ≡ 0) → q .to ≡ 0
-
-  written-nowhere : (w : ℕ) (v : ℤ) (moved : Core) → Nowhere (writtenPlan w v moved)
+  -- An operation that can fail writes no values.
+  pub plan-silent : (o : Operation) (c : Cell) → ¬ (planAt o c .next .ircr ≡ 0) → [] ≡ writtenBy o c s
   unfolding writtenPlan
-  written-nowhere w v moved n = absurd (n refl)
-
-  failed-nowhere : (k : ℕ) → Nowhere (failedPlan k at)
-  unfolding failedPlan
-  failed-nowhere k n = refl
-
-  answered-nowhere : (w : ℕ) (moved : Core) (a : Answer) → Nowhere (answeredPlan w moved at a)
-  answered-nowhere w moved (value v) = written-nowhere w v moved
-  answered-nowhere w moved (code k) = failed-nowhere k
-
-  jump-nowhere : (t : ℕ) (z : ℤ) → Nowhere (jumpPlan t z at)
-  unfolding jumpPlan
-  jump-nowhere t z = by-cond Nowhere (nonNeg z && ltb (natAbs z) t) _ (failedPlan 1 at) (λ h n. refl) (λ h. failed-nowhere 1)
-
-  taken-nowhere : (t : ℕ) (z : ℤ) (b : Bool) → Nowhere (takenPlan b t z at)
-  taken-nowhere t z b = by-cond Nowhere b (jumpPlan t z at) (keptPlan at) (λ h. jump-nowhere t z) (λ h. written-nowhere 0 (pos 0) at)
-
-  pub plan-nowhere : (o : Operation) (c : Cell) → Nowhere (planAt o c)
-  unfolding inputPlan pushPlan popPlan
-  plan-nowhere clearRegisters c = written-nowhere 1 (pos 0) at
-  plan-nowhere clearCells c = written-nowhere 2 (pos 0) at
-  plan-nowhere dumpRegisters c = written-nowhere 3 (pos 0) at
-  plan-nowhere dumpCells c = written-nowhere 4 (pos 0) at
-  plan-nowhere inputs c =
-      let rest = drop (at .place) (e .input) in
-      let token = tokenOf (drop (blanksOf rest) rest) in
-      answered-nowhere (c .first) (movedTo (at .place + blanksOf rest + length token) at) (inputAnswer (limit (e .parameters .k)) token)
-  plan-nowhere outputs c = written-nowhere 6 (valueOf s (c .first)) at
-  plan-nowhere pushes c =
-      by-cond Nowhere (eqb (at .top) (e .parameters .s)) (failedPlan 1 at) _ (λ h. failed-nowhere 1)
-      (λ h. written-nowhere (wordOf 2 (at .top)) _ (withTop (at .top + 1) at))
-  plan-nowhere pops c =
-      by-cond Nowhere (eqb (at .top) (e .parameters .b)) (failedPlan 1 at) _ (λ h. failed-nowhere 1)
-      (λ h. written-nowhere (c .first) _ (withTop (at .top - 1) at))
-  plan-nowhere skips c = jump-nowhere (e .parameters .t) (pos (at .iar + 2))
-  plan-nowhere idles c = written-nowhere 0 (pos 0) at
-  plan-nowhere (writes to f) c =
-      answered-nowhere (argumentAt to c) at (f (limit (e .parameters .k)) (valueOf s (c .first)) (valueOf s (c .second)))
-  plan-nowhere (jumps test) c = taken-nowhere (e .parameters .t) (valueOf s (c .first)) (test (valueOf s (c .second)) (valueOf s (c .third)))
-  plan-nowhere (jumpsOn b) c =
-      by-cond Nowhere (isBoolean (valueOf s (c .second)))
-      (takenPlan (Bool·beq (isTrue (valueOf s (c .second))) b) (e .parameters .t) (valueOf s (c .first)) at) (failedPlan 2 at)
-      (λ h. taken-nowhere (e .parameters .t) (valueOf s (c .first)) (Bool·beq (isTrue (valueOf s (c .second))) b)) (λ h. failed-nowhere 2)
+  plan-silent clearRegisters c n = refl
+  plan-silent clearCells c n = refl
+  plan-silent dumpRegisters c n = absurd (n refl)
+  plan-silent dumpCells c n = absurd (n refl)
+  plan-silent inputs c n = refl
+  plan-silent outputs c n = absurd (n refl)
+  plan-silent pushes c n = refl
+  plan-silent pops c n = refl
+  plan-silent skips c n = refl
+  plan-silent idles c n = refl
+  plan-silent (writes to f) c n = refl
+  plan-silent (jumps test) c n = refl
+  plan-silent (jumpsOn b) c n = refl

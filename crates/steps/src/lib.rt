@@ -34,10 +34,15 @@ pub fn step(
     let x = read(i.first, at, registers, cells);
     let y = read(i.second, at, registers, cells);
     let plan = choose(i, x, y, p, m, at, registers, cells, input);
-    let next = plan.next;
-    if next.ircr != 0 {
-        return next;
+    let code = plan.next.ircr;
+    if code != 0 {
+        return Core {
+            iar: at.iar,
+            ircr: code,
+            top: at.top,
+            place: at.place,
+        };
     }
     apply(plan, registers, cells, out);
-    next
+    plan.next
 }

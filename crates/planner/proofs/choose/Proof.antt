@@ -13,15 +13,15 @@ use Rattle.model.specs.Arithmetic.{Answer, value}
 use Rattle.model.specs.Instructions.{Position, Operation, rowOf, writes, jumps, jumpsOn}
 use Rattle.model.specs.Parameters.{limit, isTrue}
 use Rattle.model.specs.Step.{valueOf, argumentAt}
-use Rattle.cells.specs.Cells.{Within}
 use Rattle.arithmetic.specs.Answers.{computed}
 use Rattle.arithmetic.specs.declared.Computed.{Computed}
+use Rattle.cells.specs.Cells.{Within}
 use Rattle.image.specs.Decode.{cellFrom}
 use Rattle.operands.specs.Cores.{stateOf}
 use Rattle.plans.specs.Plans.{writtenPlan, settledPlan, takenPlan, booleanPlan}
 use Rattle.plans.specs.declared.Plan.{Plan}
 use Rattle.planner.specs.Choices.{planOf}
-use Rattle.planner.proofs.ChoiceLaws.{Coded, NoneTo, beyond, settled-is, checked-coded, divide-coded, remainder-coded, negation-coded, logic-coded, beq-true, beq-false}
+use Rattle.planner.proofs.ChoiceLaws.{NoneTo, beyond, beq-true, beq-false}
 use Rattle.planner.proofs.choose.Statement.{statement}
 use Rattle.planner.proofs.choose.Tie as tie
 
@@ -62,12 +62,13 @@ module _ (s : tie.Start) where
     -- A value that a callee gave is written.
     written : {to : Position} {f : ℕ → ℤ → ℤ → ℤ} → rowOf n .operation ≡ writes to (λ m x y. value (f m x y)) →
         {v : ℤ} → mag v < 2 ^ 31 → v ≡ f (s .args .m) x' y' → r ≡ writtenPlan (target to) (toZ w32 (ofZ w32 v)) (s .args .at) → Chosen r
+    unfolding writtenPlan
     written {to} {f} q k g h = by-row q (h ∙ ap (λ (z : ℤ). writtenPlan (target to) z (s .args .at)) (toZ-ofZ (record { sfits = k }) ∙ g ∙ handed f))
 
     -- A computation is settled.
-    settled : {to : Position} {f : ℕ → ℤ → ℤ → Answer} → rowOf n .operation ≡ writes to f → ((m : ℕ) (x y : ℤ) → Coded (f m x y)) →
+    settled : {to : Position} {f : ℕ → ℤ → ℤ → Answer} → rowOf n .operation ≡ writes to f →
         {a : Computed} → a ≡ computed (f (s .args .m) x' y') → r ≡ settledPlan (target to) a (s .args .at) → Chosen r
-    settled {to} {f} q k g h = by-row q (h ∙ settled-is (target to) (s .args .at) (f (limit (s .args .p .k)) (s .args .x) (s .args .y)) (g ∙ ap computed (handed f)) (k _ _ _))
+    settled {to} {f} q g h = by-row q (h ∙ ap (λ (a : Computed). settledPlan (target to) a (s .args .at)) (g ∙ ap computed (handed f)))
 
     -- A comparison with the third value jumps.
     jumped : {test : ℤ → ℤ → Bool} → rowOf n .operation ≡ jumps test →
@@ -84,7 +85,7 @@ module _ (s : tie.Start) where
 
 -- What each call requires, and then what each arm returns, in the order of the code.
 pub choose-spec : {M : Type 1} → statement M
-unfolding rowOf
+unfolding rowOf writtenPlan
 choose-spec =
     tie.close
     (tie.spec
@@ -198,21 +199,21 @@ choose-spec =
     (λ c. by-row (c .before .before .before) (c .before .match .keys10) refl (c .pop .ensures))
     (λ c. written (c .before .before .before .before) (c .before .before .match .keys11) refl (c .before .boolean .ok) (c .before .boolean .ensures) (c .put8 .ensures))
     (λ c. written (c .before .before .before .before) (c .before .before .match .keys12) refl (c .before .boolean2 .ok) (c .before .boolean2 .ensures) (c .put9 .ensures))
-    (λ c. settled (c .before .before .before .before) (c .before .before .match .keys13) refl (λ m x y. negation-coded x) (c .before .not .ensures) (c .settle .ensures))
-    (λ c. settled (c .before .before .before .before) (c .before .before .match .keys14) refl (λ m. logic-coded _) (c .before .and .ensures) (c .settle2 .ensures))
-    (λ c. settled (c .before .before .before .before) (c .before .before .match .keys15) refl (λ m. logic-coded _) (c .before .or .ensures) (c .settle3 .ensures))
-    (λ c. settled (c .before .before .before .before) (c .before .before .match .keys16) refl (λ m. logic-coded _) (c .before .xor .ensures) (c .settle4 .ensures))
-    (λ c. settled (c .before .before .before .before) (c .before .before .match .keys17) refl (λ m. logic-coded _) (c .before .nand .ensures) (c .settle5 .ensures))
-    (λ c. settled (c .before .before .before .before) (c .before .before .match .keys18) refl (λ m. logic-coded _) (c .before .nor .ensures) (c .settle6 .ensures))
-    (λ c. settled (c .before .before .before .before) (c .before .before .match .keys19) refl (λ m x y. checked-coded m _) (c .before .neg .ensures .0) (c .settle7 .ensures))
-    (λ c. settled (c .before .before .before .before) (c .before .before .match .keys20) refl (λ m x y. checked-coded m _) (c .before .abs .ensures .0) (c .settle8 .ensures))
-    (λ c. settled (c .before .before .before .before) (c .before .before .match .keys21) refl (λ m x y. checked-coded m _) (c .before .add .ensures .0) (c .settle9 .ensures))
-    (λ c. settled (c .before .before .before .before) (c .before .before .match .keys22) refl (λ m x y. checked-coded m _) (c .before .sub .ensures .0) (c .settle10 .ensures))
-    (λ c. settled (c .before .before .before .before) (c .before .before .match .keys23) refl (λ m x y. checked-coded m _) (c .before .mul .ensures .0) (c .settle11 .ensures))
-    (λ c. settled (c .before .before .before .before) (c .before .before .match .keys24) refl divide-coded (c .before .div .ensures .0) (c .settle12 .ensures))
-    (λ c. settled (c .before .before .before .before) (c .before .before .match .keys25) refl (λ m. remainder-coded) (c .before .modulo .ensures .0) (c .settle13 .ensures))
-    (λ c. settled (c .before .before .before .before) (c .before .before .match .keys26) refl (λ m x y. checked-coded m _) (c .before .add2 .ensures .0) (c .settle14 .ensures))
-    (λ c. settled (c .before .before .before .before) (c .before .before .match .keys27) refl (λ m x y. checked-coded m _) (c .before .sub2 .ensures .0) (c .settle15 .ensures))
+    (λ c. settled (c .before .before .before .before) (c .before .before .match .keys13) refl (c .before .not .ensures) (c .settle .ensures))
+    (λ c. settled (c .before .before .before .before) (c .before .before .match .keys14) refl (c .before .and .ensures) (c .settle2 .ensures))
+    (λ c. settled (c .before .before .before .before) (c .before .before .match .keys15) refl (c .before .or .ensures) (c .settle3 .ensures))
+    (λ c. settled (c .before .before .before .before) (c .before .before .match .keys16) refl (c .before .xor .ensures) (c .settle4 .ensures))
+    (λ c. settled (c .before .before .before .before) (c .before .before .match .keys17) refl (c .before .nand .ensures) (c .settle5 .ensures))
+    (λ c. settled (c .before .before .before .before) (c .before .before .match .keys18) refl (c .before .nor .ensures) (c .settle6 .ensures))
+    (λ c. settled (c .before .before .before .before) (c .before .before .match .keys19) refl (c .before .neg .ensures .0) (c .settle7 .ensures))
+    (λ c. settled (c .before .before .before .before) (c .before .before .match .keys20) refl (c .before .abs .ensures .0) (c .settle8 .ensures))
+    (λ c. settled (c .before .before .before .before) (c .before .before .match .keys21) refl (c .before .add .ensures .0) (c .settle9 .ensures))
+    (λ c. settled (c .before .before .before .before) (c .before .before .match .keys22) refl (c .before .sub .ensures .0) (c .settle10 .ensures))
+    (λ c. settled (c .before .before .before .before) (c .before .before .match .keys23) refl (c .before .mul .ensures .0) (c .settle11 .ensures))
+    (λ c. settled (c .before .before .before .before) (c .before .before .match .keys24) refl (c .before .div .ensures .0) (c .settle12 .ensures))
+    (λ c. settled (c .before .before .before .before) (c .before .before .match .keys25) refl (c .before .modulo .ensures .0) (c .settle13 .ensures))
+    (λ c. settled (c .before .before .before .before) (c .before .before .match .keys26) refl (c .before .add2 .ensures .0) (c .settle14 .ensures))
+    (λ c. settled (c .before .before .before .before) (c .before .before .match .keys27) refl (c .before .sub2 .ensures .0) (c .settle15 .ensures))
     (λ c. written (c .before .before .before .before) (c .before .before .match .keys28) refl (c .before .cmpeq .ok) (c .before .cmpeq .ensures) (c .put10 .ensures))
     (λ c. written (c .before .before .before .before) (c .before .before .match .keys29) refl (c .before .cmpneq .ok) (c .before .cmpneq .ensures) (c .put11 .ensures))
     (λ c. written (c .before .before .before .before) (c .before .before .match .keys30) refl (c .before .cmplt .ok) (c .before .cmplt .ensures) (c .put12 .ensures))

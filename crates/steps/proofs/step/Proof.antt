@@ -9,7 +9,7 @@ use mir.Val.{SFits, toZ, ofZ}
 use Rattle.model.specs.Step.{valueOf}
 use Rattle.effects.specs.Effects.{outputAfter}
 use Rattle.operands.specs.Cores.{stateOf}
-use Rattle.steps.proofs.Ready.{bounded, indexed, choosable, values-are, room-enough, stepped, registers-left, cells-left, output-left}
+use Rattle.steps.proofs.Ready.{bounded, indexed, choosable, values-are, room-enough, stepped, failed, output-left}
 use Rattle.steps.proofs.step.Statement.{statement}
 use Rattle.steps.proofs.step.Tie as tie
 
@@ -42,21 +42,19 @@ same-length-2 c = search needs
 
 returns : tie.Need-returns
 returns c =
-    let chosen = c .before .before .before in
+    let chosen = c .before in
     let second = chosen .before .before .before in
     let first = second .before .before .before in
     let start = first .before .before .before .before in
     let e = first-read first in
     let f = second-read second in
     let g = chosen .choose .ensures in
-    let h = start .pre in (
-      λ image. stepped h e f g image (registers-left h e f g (c .if1 .taken)) (cells-left h e f g (c .if1 .taken)),
-      output-left h e f g (c .if1 .taken) (start .args .out .now),
-    )
+    let h = start .pre in
+    (failed h e f g (c .if1 .taken), output-left h e f g (c .if1 .taken) (start .args .out .now))
 
 apply-requires : tie.Need-apply-requires
 apply-requires c κs =
-    let chosen = c .before .before .before .before .before .before in
+    let chosen = c .before .before .before .before in
     let second = chosen .before .before .before in
     let first = second .before .before .before in
     let start = first .before .before .before .before in
@@ -76,15 +74,16 @@ same-length-5 c = search needs
 
 returns-2 : tie.Need-returns-2
 returns-2 c =
-    let applied = c .before .before .before in
-    let chosen = applied .before .before .before .before .before .before .before in
+    let applied = c .before .before .before .before in
+    let passed = applied .before .before .before .before in
+    let chosen = passed .before in
     let second = chosen .before .before .before in
     let first = second .before .before .before in
     let start = first .before .before .before .before in
     let e = first-read first in
     let f = second-read second in
     let g = chosen .choose .ensures in (
-      λ image. stepped (start .pre) e f g image (applied .apply .ensures .0) (applied .apply .ensures .1 .0),
+      λ image. stepped (start .pre) e f g (passed .if1 .left) image (applied .apply .ensures .0) (applied .apply .ensures .1 .0),
       applied .apply .ensures .1 .1 ∙ ap (λ (l : List ℤ). outputAfter l (start .args .out .now)) (values-are (start .pre) e f g),
     )
 
