@@ -66,16 +66,9 @@ pub fn settle(to: u32, answer: Computed, at: Core) -> Plan
     requires { ⌜ at .iar ≤ 4096 ⌝ }
     ensures { λ r. ⌜ r ≡ settledPlan to answer at ⌝ }
 {
-    Plan {
-        value: answer.value,
-        to,
-        next: Core {
-            iar: at.iar + 1,
-            ircr: answer.code,
-            top: at.top,
-            place: at.place,
-        },
-    }
+    let mut plan = put(to, answer.value, at);
+    plan.next.ircr = answer.code;
+    plan
 }
 
 // A jump: valid targets are 0..T-1.
