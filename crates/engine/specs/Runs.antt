@@ -1,18 +1,18 @@
 -- A run of looks and steps, as the code has it.
 use Prim.Native.Nat.{ℕ, _*_, _≤_}
-use mathlib.Core.Path.{_≡_}
 use mathlib.Core.Bool.{true}
 use mathlib.Core.List.{List, [], _++_}
+use mathlib.Core.Path.{_≡_}
 use lib.IntN.{ℤ}
 use lib.ListN.{length, drop}
-use Rattle.model.specs.Parameters.{Fit, limit}
-use Rattle.model.specs.Images.{imageFits}
-use Rattle.model.specs.Grants.{Stop, run}
-use Rattle.model.specs.Step.{Environment, State, Tak}
 use Rattle.model.proofs.Keeps.{Sound}
-use Rattle.prices.specs.Prices.{priceTable}
-use Rattle.operands.specs.declared.Core.{Core}
+use Rattle.model.specs.Grants.{Stop, run}
+use Rattle.model.specs.Images.{imageFits}
+use Rattle.model.specs.Parameters.{Fit, limit}
+use Rattle.model.specs.Step.{Environment, State, Tak}
 use Rattle.operands.specs.Cores.{stateOf}
+use Rattle.operands.specs.declared.Core.{Core}
+use Rattle.prices.specs.Prices.{priceTable}
 use Rattle.engine.specs.declared.Ran.{Ran}
 
 -- What passed checks say of the parameters, the image, the record and the memory; and the price table.

@@ -1,9 +1,9 @@
 -- Lists of calls of grant, known by their arguments, their answers and their contract alone.
 use Prim.Native.Nat.{ℕ}
 use mathlib.Core.List.{List, [], _∷_}
-use Rattle.model.specs.Grants.{Call}
 use Rattle.model.specs.Calls.{Granted}
 use Rattle.model.specs.Demand.{Held, heldAfter}
+use Rattle.model.specs.Grants.{Call}
 use Rattle.machine.specs.Contracts.{GrantIs}
 
 -- From the record and memory `h`: the calls, what each answered and left in its buffers, and the record and memory after the last one.

@@ -1,12 +1,11 @@
 -- What start and grant promise: the reply and the buffers after the call are the definitions'. A buffer is marked ₀ before the call, ₁ after it.
 use Prim.Native.Nat.{ℕ}
-use mathlib.Core.Bool.{true}
 use mathlib.Core.List.{List}
 use mathlib.Core.Path.{_≡_}
-use lib.IntN.{ℤ, pos, negsuc}
-use lib.Signed.{leZ}
+use lib.IntN.{ℤ}
 use Rattle.model.specs.Calls.{Started, started, Granted, granted, grantRefusal, accountOf, outcomeNumber}
 use Rattle.model.specs.Grants.{Call}
+use Rattle.model.specs.Step.{environmentOf}
 use Rattle.model.specs.declared.GrantReply.{GrantReply}
 use Rattle.model.specs.declared.Parameters.{Parameters}
 use Rattle.model.specs.declared.Record.{Record}
@@ -33,7 +32,7 @@ module _ (image input : List ℕ) (rec : Record) (cycles : ℕ) (registers₀ ce
   pub record GrantIs (r : GrantReply) (registers₁ cells₁ slice₁ : List ℤ) : Type 0 where
     pub reply : r ≡ grantResult .reply
     pub number : outcomeNumber (r .outcome)
-        ≡ grantRefusal (record { parameters = rec .parameters; image = image; input = input }) (accountOf rec registers₀ cells₀) call
+        ≡ grantRefusal (environmentOf (rec .parameters) image input) (accountOf rec registers₀ cells₀) call
     pub registers : registers₁ ≡ grantResult .registers
     pub cells : cells₁ ≡ grantResult .cells
     pub slice : slice₁ ≡ grantResult .slice

@@ -1,20 +1,20 @@
 -- What is known before a step.
 use Prim.Native.Nat.{ℕ, _≤_}
-use mathlib.Core.Path.{_≡_}
 use mathlib.Core.Bool.{true}
 use mathlib.Core.List.{List, []}
+use mathlib.Core.Path.{_≡_}
 use lib.IntN.{ℤ}
 use lib.ListN.{length}
-use Rattle.model.specs.declared.Parameters.{Parameters}
-use Rattle.model.specs.Parameters.{Fit, limit}
-use Rattle.model.specs.Instructions.{rowOf}
-use Rattle.model.specs.Images.{cellFits}
-use Rattle.model.specs.Step.{environmentOf, writtenBy}
 use Rattle.model.proofs.Keeps.{Sound}
-use Rattle.image.specs.declared.decode.Instruction.{Instruction}
+use Rattle.model.specs.Images.{cellFits}
+use Rattle.model.specs.Instructions.{rowOf}
+use Rattle.model.specs.Parameters.{Fit, limit}
+use Rattle.model.specs.Step.{environmentOf, writtenBy}
+use Rattle.model.specs.declared.Parameters.{Parameters}
 use Rattle.image.specs.Decode.{cellFrom}
-use Rattle.operands.specs.declared.Core.{Core}
+use Rattle.image.specs.declared.decode.Instruction.{Instruction}
 use Rattle.operands.specs.Cores.{stateOf}
+use Rattle.operands.specs.declared.Core.{Core}
 
 -- The values that an instruction writes to the output.
 abbrev pub written : Instruction → Core → (registers cells : List ℤ) → List ℤ
