@@ -1,5 +1,4 @@
 // Looks and steps until one of the endings holds.
-ghost use lib.ListN.{length};
 ghost use Rattle.model.specs.Step.{environmentOf};
 ghost use Rattle.engine.specs.Runs.{Runnable, RunIs};
 use looks::Found;
