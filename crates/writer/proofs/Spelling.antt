@@ -3,6 +3,7 @@ use Prim.Native.Nat.{ℕ, zero, suc, _+_, _-_, _/_, _%_, _≤_, _<_}
 use mathlib.Core.Path.{_≡_, sym, ap, _∙_}
 use mathlib.Core.Bool.{true, false}
 use mathlib.Core.List.{List, [], _∷_, _++_, append-assoc, append-nil}
+use native.Mathlib.Decide.{decLt}
 use native.Mathlib.Numerals.{add-one}
 use native.Mathlib.Omega.{arith}
 use lib.Dec.{leb·zero}
@@ -14,7 +15,7 @@ use borrow.Author.Tests.{lt-ltb, le-ltb}
 use borrow.Rule.Slice.PartMut.{putMid}
 use Rattle.model.specs.Numbers.{digitsOf, decimal}
 use Rattle.model.specs.Calls.{spelled}
-use Rattle.model.proofs.Decimals.{by-digits, digits-last, digits-more, digits-append}
+use Rattle.model.proofs.Decimals.{by-digits, digits-last, digits-more, digits-append, digits-fuel}
 use Rattle.writer.specs.Decimal.{written}
 
 -- The last k digits of n in front of s, zeros where n has fewer.
@@ -43,6 +44,22 @@ all-digits = by-digits All last more
 
 pub decimal-digits : (n : ℕ) (s : List ℕ) → lastDigits (length (decimal (pos n))) n s ≡ decimal (pos n) ++ s
 decimal-digits n s = all-digits (suc n) n (omega arith) s
+
+-- One digit less.
+pub decimal-shorter : (n : ℕ) → 10 ≤ n → length (decimal (pos n)) ≡ length (decimal (pos (n / 10))) + 1
+decimal-shorter n h =
+    let d = 48 + n % 10 in
+    let ds = digitsOf n (n / 10) [] in
+    ap length (digits-more n n [] h ∙ digits-append n (n / 10) [] (d ∷ []))
+    ∙ length-append ds (d ∷ [])
+    ∙ ap (λ (xs : List ℕ). length xs + 1) (digits-fuel n (n / 10) (omega arith) (suc (n / 10)) [] (omega arith))
+
+pub decimal-some : (n : ℕ) → 1 ≤ length (decimal (pos n))
+decimal-some n = go (decLt n 10)
+  where
+    go : Dec (n < 10) → 1 ≤ length (decimal (pos n))
+    go (yes l) = rw (digits-last n n [] l) (omega arith)
+    go (no g) = omega (arith, decimal-shorter n (omega arith))
 
 -- One more digit in front.
 pub write-digit : (at n : ℕ) (out : List ℕ) → 0 < at → at ≤ length out →

@@ -7,6 +7,7 @@ ghost use lib.ListN.{length, drop};
 ghost use Rattle.model.specs.Numbers.{decimal};
 ghost use Rattle.model.specs.Calls.{spelled};
 ghost use Rattle.writer.specs.Decimal.{written};
+use crate::natural::write_digits;
 use model::DecimalReply;
 
 // The value without its sign; 64 bits hold the negation of every value.
@@ -54,19 +55,13 @@ fn digit_count(n: u32) -> usize
     10
 }
 
-// Writes n at the start of `out`, from the last digit to the first, so that none is moved; the count of digits.
-fn write_digits(n: u32, out: &mut [u8]) -> usize
+// Writes n at the start of `out`; the count of digits.
+fn write_magnitude(n: u32, out: &mut [u8]) -> usize
     requires { ⌜ 10 ≤ length (now out) ⌝ }
     ensures { λ r. ⌜ (r ≡ length (decimal (pos n))) × (now (out .exit) ≡ decimal (pos n) ++ drop r (now (out .entry))) ⌝ }
 {
     let count = digit_count(n);
-    let mut left = n;
-    let mut at = count;
-    while 0 < at {
-        at -= 1;
-        out[at] = b'0' + (left % 10) as u8;
-        left /= 10;
-    }
+    write_digits(n as u64, count, out);
     count
 }
 
@@ -82,10 +77,10 @@ pub fn write_decimal(value: i32, out: &mut [u8]) -> DecimalReply
     }
     let n = magnitude(value);
     if 0 <= value {
-        let count = write_digits(n, out);
+        let count = write_magnitude(n, out);
         return DecimalReply { refusal: 0, count };
     }
-    let count = write_digits(n, &mut out[1..]);
+    let count = write_magnitude(n, &mut out[1..]);
     out[0] = b'-';
     DecimalReply {
         refusal: 0,

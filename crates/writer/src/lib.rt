@@ -1,2 +1,3 @@
 // The decimal writer.
 pub mod decimal;
+pub mod natural;

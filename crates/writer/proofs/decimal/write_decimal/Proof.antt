@@ -18,31 +18,31 @@ returns c = spelled-short (c .before .before .args .value) (now (c .before .befo
 magnitude-requires : tie.Need-magnitude-requires
 magnitude-requires c κs = search needs
 
-write-digits-requires : tie.Need-write-digits-requires
-write-digits-requires c κs = search needs
+write-magnitude-requires : tie.Need-write-magnitude-requires
+write-magnitude-requires c κs = search needs
 
 same-length : tie.Need-same-length
 same-length c = search needs
 
 returns-2 : tie.Need-returns-2
 returns-2 c =
-    let call = c .before .before .write-digits in
+    let call = c .before .before .write-magnitude in
     let test = c .before .before .before .before in
     let start = test .before .before .before .before in
     let e = decimal-natural (toZ-ofZ (start .fits .value)) (test .if2 .taken) (test .before .magnitude .ensures) in
     spelled-long (start .args .value) (now (start .args .out)) _ _ _ (omega (arith, test .before .before .if1 .left)) e (call .ensures .0) (call .ensures .1)
 
-sub-write-digits : tie.Need-sub-write-digits
-sub-write-digits c = search needs
+sub-write-magnitude : tie.Need-sub-write-magnitude
+sub-write-magnitude c = search needs
 
-part-write-digits-start : tie.Need-part-write-digits-start
-part-write-digits-start c = search needs
+part-write-magnitude-start : tie.Need-part-write-magnitude-start
+part-write-magnitude-start c = search needs
 
-part-write-digits-end : tie.Need-part-write-digits-end
-part-write-digits-end c = search needs
+part-write-magnitude-end : tie.Need-part-write-magnitude-end
+part-write-magnitude-end c = search needs
 
-write-digits-requires-2 : tie.Need-write-digits-requires-2
-write-digits-requires-2 c κs = search needs
+write-magnitude-requires-2 : tie.Need-write-magnitude-requires-2
+write-magnitude-requires-2 c κs = search needs
 
 slice-write-out : tie.Need-slice-write-out
 slice-write-out c = search needs
@@ -50,14 +50,14 @@ slice-write-out c = search needs
 add-t6 : tie.Need-add-t6
 add-t6 c =
     let n = c .before .before .before .before .before .magnitude .result in
-    omega (arith, c .before .before .write-digits2 .ensures .0, digits-at-most (suc n) n (omega arith) 9 [] (omega arith))
+    omega (arith, c .before .before .write-magnitude2 .ensures .0, digits-at-most (suc n) n (omega arith) 9 [] (omega arith))
 
 same-length-2 : tie.Need-same-length-2
 same-length-2 c = search needs
 
 returns-3 : tie.Need-returns-3
 returns-3 c =
-    let call = c .before .before .write-digits2 in
+    let call = c .before .before .write-magnitude2 in
     let test = c .before .before .before .before in
     let start = test .before .before .before .before in
     let old = now (start .args .out) in
@@ -73,13 +73,13 @@ write-decimal-spec =
     (tie.spec
     returns
     magnitude-requires
-    write-digits-requires
+    write-magnitude-requires
     same-length
     returns-2
-    sub-write-digits
-    part-write-digits-start
-    part-write-digits-end
-    write-digits-requires-2
+    sub-write-magnitude
+    part-write-magnitude-start
+    part-write-magnitude-end
+    write-magnitude-requires-2
     slice-write-out
     add-t6
     same-length-2

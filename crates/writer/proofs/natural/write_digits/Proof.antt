@@ -1,4 +1,4 @@
--- `decimal::write_digits` meets its contract: the digits that are left go in front of what is written. Assumes nothing.
+-- `natural::write_digits` meets its contract: the digits that are left go in front of what is written. Assumes nothing.
 use Prim.Native.Nat.{ℕ, suc, _+_, _-_, _%_, _≤_}
 use mathlib.Core.Path.{_≡_, refl, sym, _∙_}
 use mathlib.Core.List.{List, []}
@@ -7,23 +7,18 @@ use borrow.Author.Needs.{needs}
 use lib.ListN.{length, drop, set, length-set}
 use Rattle.model.proofs.Decimals.{digits-at-most}
 use Rattle.writer.proofs.Spelling.{lastDigits, decimal-digits, write-digit}
-use Rattle.writer.proofs.decimal.write_digits.Statement.{statement}
-use Rattle.writer.proofs.decimal.write_digits.Tie as tie
+use Rattle.writer.proofs.natural.write_digits.Statement.{statement}
+use Rattle.writer.proofs.natural.write_digits.Tie as tie
 
 abbrev Inv-loop : tie.InvT-loop
-Inv-loop n out₀ count left₀ at₀ out left at =
+Inv-loop n count out₀ left₀ at₀ out left at =
     (at ≤ length out) × (length out ≡ length out₀) × (lastDigits count n (drop count out₀) ≡ lastDigits at left (drop at out))
 
 abbrev μ-loop : tie.MeasureT-loop
-μ-loop n out₀ count left₀ at₀ out left at = at
-
-digit-count-requires : tie.Need-digit-count-requires Inv-loop μ-loop
-digit-count-requires c κs = search needs
+μ-loop n count out₀ left₀ at₀ out left at = at
 
 loop-holds : tie.Need-loop-holds Inv-loop μ-loop
-loop-holds c =
-    let n = c .before .before .args .n in
-    (omega (arith, c .digit-count .ensures, digits-at-most (suc n) n (omega arith) 9 [] (omega arith)), refl, refl)
+loop-holds c = (c .pre .1, refl, refl)
 
 sub-at : tie.Need-sub-at Inv-loop μ-loop
 sub-at c = search needs
@@ -55,12 +50,10 @@ finished at n out e = rw e
 
 returns : tie.Need-returns Inv-loop μ-loop
 returns c =
-    let start = c .before .before .before .before .args in
-    let count = c .before .before .digit-count .ensures in (
-      count,
-      sym (c .before .loop .inv .2 ∙ finished (c .before .loop .at) (c .before .loop .left) (c .before .loop .out) (omega arith))
-          ∙ rw count (decimal-digits (start .n) _),
-    )
+    let start = c .before .before in
+    let count = start .pre .0 in
+    sym (c .before .loop .inv .2 ∙ finished (c .before .loop .at) (c .before .loop .left) (c .before .loop .out) (omega arith))
+    ∙ rw count (decimal-digits (start .args .n) _)
 
 pub write-digits-spec : {M : Type 1} → statement M
 write-digits-spec =
@@ -68,7 +61,6 @@ write-digits-spec =
     (tie.spec
     Inv-loop
     μ-loop
-    digit-count-requires
     loop-holds
     sub-at
     cast-out
