@@ -1,0 +1,4 @@
+pub mod WordLaws
+pub mod ScanLaws
+pub mod Chunks
+pub mod Examples

@@ -1,0 +1,18 @@
+-- `settle` meets its contract. Assumes nothing.
+use borrow.Author.Needs.{needs}
+use Rattle.settings.proofs.ScanLaws.{settled-five, settled-other}
+use Rattle.settings.proofs.Chunks.{settled-meaning}
+use Rattle.settings.proofs.settle.Statement.{statement}
+use Rattle.settings.proofs.settle.Tie as tie
+
+end-word-requires : tie.Need-end-word-requires
+end-word-requires c κs = search needs
+
+returns : tie.Need-returns
+returns c = settled-meaning (settled-five _ (c .before .before .before .end-word .ensures) (c .before .if1 .taken))
+
+returns-2 : tie.Need-returns-2
+returns-2 c = settled-meaning (settled-other _ (c .before .before .end-word .ensures) (c .if1 .left))
+
+pub settle-spec : {M : Type 1} → statement M
+settle-spec = tie.close (tie.spec end-word-requires returns returns-2)
