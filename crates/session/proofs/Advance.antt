@@ -1,0 +1,137 @@
+-- A grant whose output slice has room for any step stops for a full output only after a step. Assumes nothing.
+use Prim.Native.Nat.{ℕ, zero, suc, _+_, _-_, _≤_, _<_}
+use mathlib.Core.Bool.{Bool, true, false}
+use mathlib.Core.List.{List, [], _∷_, _++_}
+use mathlib.Core.Path.{_≡_, refl, sym, ap, _∙_}
+use native.Mathlib.Nat.{le-refl}
+use native.Mathlib.Omega.{arith}
+use lib.Dec.{ltb}
+use lib.IntN.{ℤ}
+use lib.ListN.{length, drop, length-append}
+use borrow.Author.Tests.{ltb-true, ltb-false}
+use Rattle.model.proofs.Costs.{priced, tak-run}
+use Rattle.model.proofs.Fits.{limits, grant-accepted}
+use Rattle.model.proofs.GrantKeeps.{Keeping, run-keeps, record-sound, grant-kept}
+use Rattle.model.proofs.Keeps.{Sound, step-keeps}
+use Rattle.model.proofs.Laws.{look-goes}
+use Rattle.model.proofs.Lists as lists
+use Rattle.model.proofs.Refusals.{grant-refused}
+use Rattle.model.specs.Calls.{accountOf, Granted, granted, grantRefusal}
+use Rattle.model.specs.Grants.{Call, Account, Standing, Stop, advance, run, accept, handBack, grant}
+use Rattle.model.specs.Instructions.{Operation, clearRegisters, clearCells, dumpRegisters, dumpCells, inputs, outputs, pushes, pops, skips, idles, writes, jumps, jumpsOn}
+use Rattle.model.specs.Machine.{Status, running, Look, stops, goes, look, lookAt}
+use Rattle.model.specs.Parameters.{Fit}
+use Rattle.model.specs.Step.{Environment, State, Tak, writtenBy, currentCell, currentOperation, stateStatus, stepCost, stepValues, environmentOf}
+use Rattle.model.specs.declared.Ending.{Ending}
+use Rattle.model.specs.declared.Ending.the-variants.{Failed, Ended, Paused, OutputFull}
+use Rattle.model.specs.declared.Outcome.{Outcome}
+use Rattle.model.specs.declared.Outcome.the-variants.{Refused, Stopped}
+use Rattle.model.specs.declared.Record.{Record}
+use Rattle.session.specs.Sessions.{isFull, Progress}
+
+-- No step writes more than 4,096 values.
+few : (e : Environment) → Fit (e .parameters) → (s : State) → Sound e s → length (stepValues e s) ≤ 4096
+unfolding stepValues
+few e f s h = go (currentOperation e s)
+  where
+    go : (o : Operation) → length (writtenBy o (currentCell e s) s) ≤ 4096
+    go clearRegisters = omega arith
+    go clearCells = omega arith
+    go dumpRegisters = omega (arith, h .register-count, limits (e .parameters) f .n-high)
+    go dumpCells = omega (arith, h .cell-count, limits (e .parameters) f .s-high)
+    go inputs = omega arith
+    go outputs = omega arith
+    go pushes = omega arith
+    go pops = omega arith
+    go skips = omega arith
+    go idles = omega arith
+    go (writes to g) = omega arith
+    go (jumps test) = omega arith
+    go (jumpsOn b) = omega arith
+
+look-full : (u : Status) (short crowded : Bool) → look u short crowded ≡ stops OutputFull → crowded ≡ true
+unfolding look
+look-full Status.failed short crowded h = cc
+look-full Status.ended short crowded h = cc
+look-full running true crowded h = cc
+look-full running false true h = refl
+look-full running false false h = cc
+
+module _ (e : Environment) (a : Account State) (c : Call) (h : grantRefusal e a c ≡ 0) (room : 4096 ≤ length (c .slice)) where
+  abbrev given : ℕ
+  given = a .granted + c .cycles
+
+  abbrev begin : Standing State
+  begin = record { state = a .state; spent = a .spent; written = [] }
+
+  abbrev stop : Stop State
+  stop = run (Tak e) given (length (c .slice)) begin
+
+  fit : Fit (e .parameters)
+  fit = grant-accepted e a c h .start .fit
+
+  sound : Sound e (a .state)
+  sound =
+      let g = grant-accepted e a c h in
+      record-sound e a (g .record-fits) (g .start .register-count) (g .start .cell-count) .state
+
+  -- The first look finds room, so that what stops for a full output has taken a step.
+  stop-spends : stop .ending ≡ OutputFull → a .spent < stop .at .spent
+  unfolding lookAt advance
+  stop-spends full = go (lookAt (Tak e) (a .state) (given - a .spent) (length (c .slice) - 0)) refl
+    where
+      go : (v : Look) → lookAt (Tak e) (a .state) (given - a .spent) (length (c .slice) - 0) ≡ v → a .spent < stop .at .spent
+      go (stops x) q =
+          let s : stop ≡ record { ending = x; at = begin } = tak-run e fit given (length (c .slice)) begin ∙ rw q in
+          let x-full : x ≡ OutputFull = sym (ap (λ (t : Stop State). t .ending) s) ∙ full in
+          let crowded = look-full (stateStatus e (a .state)) _ _ (q ∙ ap stops x-full) in
+          absurd (omega (arith, room, few e fit (a .state) sound, ltb-true (length (c .slice) - 0) (length (stepValues e (a .state))) crowded))
+      go goes q =
+          let s : stop ≡ run (Tak e) given (length (c .slice)) (advance (Tak e) begin) = tak-run e fit given (length (c .slice)) begin ∙ rw q in
+          let g = look-goes (stateStatus e (a .state)) _ _ q in
+          let cost = stepCost e (a .state) in
+          let paid = ltb-false (given - a .spent) cost (g .paid) in
+          let some = priced e fit (a .state) (g .run) in
+          let sum = record-sound e a (grant-accepted e a c h .record-fits) (grant-accepted e a c h .start .register-count) (grant-accepted e a c h .start .cell-count) .spent in
+          let kept : Keeping (Tak e) (Sound e) given (a .spent + cost) (advance (Tak e) begin) =
+          record {
+            state = step-keeps e fit (grant-accepted e a c h .start .image-fits) (a .state) sound (g .run);
+            within = omega (arith, paid, sum);
+            rises = le-refl (a .spent + cost);
+          }
+          in
+          let on =
+          run-keeps (Tak e) (Sound e) (step-keeps e fit (grant-accepted e a c h .start .image-fits)) given (length (c .slice)) (a .spent + cost)
+          (advance (Tak e) begin) kept
+          in
+          rw s (omega (arith, on .rises, some))
+
+-- An ending that is followed by another grant is a full output.
+full-ending : (x : Ending) → isFull (Stopped x) ≡ true → x ≡ OutputFull
+full-ending Failed h = cc
+full-ending Ended h = cc
+full-ending Paused h = cc
+full-ending OutputFull h = refl
+
+module _ (image input : List ℕ) (r : Record) (registers cells : List ℤ) (c : Call) (room : 4096 ≤ length (c .slice)) where
+  abbrev place : Environment
+  place = environmentOf (r .parameters) image input
+
+  abbrev before : Account State
+  before = accountOf r registers cells
+
+  -- After a full output more is spent than before, and not more than granted.
+  pub full-progress : isFull (granted image input r registers cells c .reply .outcome) ≡ true →
+      Progress r (c .cycles) (granted image input r registers cells c .reply .rec)
+  unfolding granted accept handBack
+  full-progress full = go (grantRefusal place before c) refl
+    where
+      go : (k : ℕ) → grantRefusal place before c ≡ k → Progress r (c .cycles) (granted image input r registers cells c .reply .rec)
+      go zero h =
+          let kept = grant-kept place before c h in
+          let e = lists.grant-accepted (Tak place) (grantRefusal place) before c h in
+          let f = rw e at full in
+          record { spends = rw e (stop-spends place before c h room (full-ending _ f)); within = kept .sound .spent; granted = kept .granted }
+      go (suc k) h =
+          let refused = ap (λ (x : Granted). isFull (x .reply .outcome)) (grant-refused image input r registers cells c k h) in
+          absurd (let z : _≡_ {A = ℕ} 0 1 = cc in omega arith)

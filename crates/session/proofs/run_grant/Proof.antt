@@ -1,0 +1,83 @@
+-- `run_grant` meets its contract. Assumes nothing.
+use mathlib.Core.Path.{sym, _∙_}
+use native.Mathlib.Omega.{arith}
+use lib.Seq.{length-take-le}
+use borrow.Author.Needs.{needs}
+use denote.Ref.{now}
+use Rattle.report.proofs.Pieces.{put-length, put-then}
+use Rattle.session.proofs.Advance.{full-progress}
+use Rattle.session.proofs.Lines.{written-fits, reported}
+use Rattle.session.proofs.run_grant.Statement.{statement}
+use Rattle.session.proofs.run_grant.Tie as tie
+
+grant-requires : tie.Need-grant-requires
+grant-requires c κs = search needs
+
+slice-reshare-prefix-put-values : tie.Need-slice-reshare-prefix-put-values
+slice-reshare-prefix-put-values c = written-fits (c .before .before .before .grant .ensures)
+
+slice-aggregate-put-values : tie.Need-slice-aggregate-put-values
+slice-aggregate-put-values c = sym (length-take-le _ _ (written-fits (c .before .before .before .before .grant .ensures)))
+
+put-values-requires : tie.Need-put-values-requires
+put-values-requires c κs =
+    let done = c .before .before .before .before .before in
+    let fit = written-fits (done .grant .ensures) in
+    let some = length-take-le (done .grant .result .values) (done .grant .last .1 .1 .1 .1 .1 .1 .0) fit in
+    let start = done .before .before .before .before .before .before .before in
+    omega (arith, fit, some, c .before .before .values .given, start .pre)
+
+finish-requires : tie.Need-finish-requires
+finish-requires c κs =
+    let put = c .before .before .before in
+    let done = put .before .before .before .before .before .before in
+    let fit = written-fits (done .grant .ensures) in
+    let some = length-take-le (done .grant .result .values) (done .grant .last .1 .1 .1 .1 .1 .1 .0) fit in
+    let start = done .before .before .before .before .before .before .before in
+    omega (arith, fit, some, put .before .before .before .values .given, start .pre, put .put-values .ensures .1, put-length (put .put-values .ensures .0))
+
+same-length : tie.Need-same-length
+same-length c = search needs
+
+same-length-2 : tie.Need-same-length-2
+same-length-2 c = search needs
+
+same-length-3 : tie.Need-same-length-3
+same-length-3 c = search needs
+
+same-length-4 : tie.Need-same-length-4
+same-length-4 c = search needs
+
+returns : tie.Need-returns
+returns c =
+    let last = c .before .before .finish .ensures in
+    let put = c .before .before .before .before .before .before in
+    let done = put .before .before .before .before .before .before in
+    let a = done .before .before .before .before .before .before .before .args in
+    let is =
+    reported (now (a .image)) (now (a .input)) (a .rec) (a .cycles) (now (a .registers)) (now (a .cells)) (now (a .values)) (now (a .lines))
+    (done .grant .ensures) (put .put-values .ensures .0) (last .0) (last .1)
+    in
+    let all = put-then (put .put-values .ensures .0) (last .0) in
+    let room = done .before .before .before .before .before .before .before .pre .0 in (
+      is,
+      (
+        omega (arith, all .room, all .end, put-length all),
+        λ m. rw (is .rec) (full-progress (now (a .image)) (now (a .input)) (a .rec) (now (a .registers)) (now (a .cells)) (record { cycles = a .cycles; slice = now (a .values) }) room (sym (is .more) ∙ m)),
+      ),
+    )
+
+pub run-grant-spec : {M : Type 1} → statement M
+run-grant-spec =
+    tie.close
+    (tie.spec
+    grant-requires
+    slice-reshare-prefix-put-values
+    slice-aggregate-put-values
+    put-values-requires
+    finish-requires
+    same-length
+    same-length-2
+    same-length-3
+    same-length-4
+    returns)
