@@ -1,0 +1,2 @@
+NOP
+MOV IAR IRCR

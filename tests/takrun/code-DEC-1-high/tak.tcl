@@ -1,0 +1,3 @@
+SET R0 0
+DEC R0 -128
+OUT R0

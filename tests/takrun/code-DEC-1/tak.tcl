@@ -1,0 +1,3 @@
+SET R0 -128
+DEC R0 1
+OUT R0

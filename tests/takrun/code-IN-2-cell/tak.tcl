@@ -1,0 +1,2 @@
+IN DM1
+OUT R0

@@ -1,0 +1,4 @@
+IN R0
+OUT R0
+IN R0
+OUT R0

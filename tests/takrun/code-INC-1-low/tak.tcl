@@ -1,0 +1,3 @@
+SET R0 -1
+INC R0 -128
+OUT R0

@@ -1,0 +1,3 @@
+SET R0 127
+INC R0 1
+OUT R0

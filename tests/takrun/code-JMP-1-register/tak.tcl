@@ -1,0 +1,2 @@
+SET R0 8
+JMP R0

@@ -1,0 +1,2 @@
+SETF R0
+JMPF -1 R0

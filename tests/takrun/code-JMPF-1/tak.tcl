@@ -1,0 +1,2 @@
+SETF R0
+JMPF 8 R0

@@ -1,0 +1,2 @@
+SET R0 -2
+JMPF 0 R0

@@ -1,0 +1,2 @@
+SET R0 1
+JMPT 8 R0

@@ -1,0 +1,2 @@
+SET R0 1
+JMPT 0 R0

@@ -1,0 +1,2 @@
+SET R0 1
+NOT R0 R1

@@ -1,0 +1,2 @@
+OUT SHR
+POP R0

@@ -1,0 +1,3 @@
+PUSH IAR
+POP R0
+POP R0

@@ -1,0 +1,2 @@
+OUT SHR
+PUSH R0

@@ -1,0 +1,2 @@
+SKIP
+NOP

@@ -1,0 +1,7 @@
+NOP
+NOP
+NOP
+NOP
+NOP
+NOP
+SKIP

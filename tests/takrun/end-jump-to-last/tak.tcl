@@ -1,0 +1,4 @@
+JMP 3
+OUT R0
+OUT R0
+OUT IAR

@@ -1,0 +1,2 @@
+SKIP
+OUT IAR

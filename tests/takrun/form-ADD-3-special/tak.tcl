@@ -1,0 +1,1 @@
+ADD R0 R1 SHR

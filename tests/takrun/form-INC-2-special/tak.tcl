@@ -1,0 +1,1 @@
+INC R0 SHR

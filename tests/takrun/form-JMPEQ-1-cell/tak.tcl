@@ -1,0 +1,1 @@
+JMPEQ DM0 R0 R1

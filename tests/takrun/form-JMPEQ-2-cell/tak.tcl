@@ -1,0 +1,1 @@
+JMPEQ 1 DM0 R1

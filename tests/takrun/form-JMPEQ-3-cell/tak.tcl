@@ -1,0 +1,1 @@
+JMPEQ 1 R0 DM0

@@ -1,0 +1,1 @@
+JMPT DM0 R0

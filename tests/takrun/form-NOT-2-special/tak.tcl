@@ -1,0 +1,1 @@
+NOT R0 SHR

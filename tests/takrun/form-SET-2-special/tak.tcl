@@ -1,0 +1,1 @@
+SET R0 SHR

@@ -1,0 +1,3 @@
+NOP
+
+CMP R0 R1 R0

@@ -1,0 +1,3 @@
+NOP
+
+JMPNE 0 R0 R1

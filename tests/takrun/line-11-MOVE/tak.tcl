@@ -1,0 +1,3 @@
+NOP
+
+MOVE R0 R1

@@ -1,0 +1,3 @@
+NOP
+
+CLEAR_REG R0

@@ -1,0 +1,3 @@
+NOP
+
+JMPEQ 1 R0

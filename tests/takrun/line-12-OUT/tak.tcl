@@ -1,0 +1,3 @@
+NOP
+
+OUT R0 R1

@@ -1,0 +1,3 @@
+NOP
+
+ADD R0 R1 R0 R1

@@ -1,0 +1,3 @@
+NOP
+
+SET RO 1

@@ -1,0 +1,3 @@
+NOP
+
+SETT DM9

@@ -1,0 +1,3 @@
+NOP
+
+SET R0 0x1F

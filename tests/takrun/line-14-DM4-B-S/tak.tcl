@@ -1,0 +1,2 @@
+OUT DM3
+OUT DM4

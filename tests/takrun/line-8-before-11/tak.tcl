@@ -1,0 +1,3 @@
+FOO
+NOP
+NOP

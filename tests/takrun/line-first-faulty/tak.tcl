@@ -1,0 +1,4 @@
+NOP
+SET R9 1
+FOO
+ADD

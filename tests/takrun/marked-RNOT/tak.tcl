@@ -1,0 +1,3 @@
+SET R0 3
+RNOT R0 R1
+OUT R1

@@ -1,0 +1,3 @@
+SET R0 64
+RSL R0
+OUT R0

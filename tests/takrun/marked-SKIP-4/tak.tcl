@@ -1,0 +1,5 @@
+NOP
+NOP
+NOP
+NOP
+SKIP

@@ -1,0 +1,12 @@
+SETT R1
+JMPT 3 R1
+OUT IAR
+JMPT 100 R0 # not taken: the target is not looked at
+JMPF -1 R1 # not taken
+SET R2 8
+JMPF R2 R0
+OUT IAR
+JMPF 10 IRCR
+OUT IAR
+JMPT 100 IRCR
+OUT IAR

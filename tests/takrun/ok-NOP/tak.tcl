@@ -1,0 +1,6 @@
+NOP
+
+  	,
+# comment
+nop
+OUT IAR

@@ -1,0 +1,3 @@
+INC R0 1
+NEG R1 R1
+JMP 0

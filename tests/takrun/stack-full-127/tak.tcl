@@ -1,0 +1,3 @@
+PUSH SHR
+OUT SHR
+JMP 0

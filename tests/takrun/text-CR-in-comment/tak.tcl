@@ -1,0 +1,1 @@
+OUT SHR # oneOUT SHR

@@ -1,0 +1,3 @@
+OUT sHr
+out Ircr
+OUT iAR

@@ -1,0 +1,4 @@
+/NOP
+;SET
+#R0
+OUT IAR

@@ -1,0 +1,2 @@
+OUT SHR
+N/OP

@@ -1,0 +1,6 @@
+/ a
+# b
+; c
+// d
+OUT SHR/e
+OUT SHR#f;g
