@@ -1,5 +1,5 @@
 -- The test of a record and its memory, refusal 15. Assumes nothing.
-use Prim.Native.Nat.{ℕ, _+_, _^_, _≤_, _<_}
+use Prim.Native.Nat.{ℕ, suc, _+_, _^_, _≤_, _<_}
 use mathlib.Core.Bool.{Bool, true, false, _&&_}
 use mathlib.Core.List.{List}
 use mathlib.Core.Path.{_≡_, refl, sym, ap, _∙_}
@@ -22,19 +22,22 @@ use Rattle.cells.proofs.Integers.{mag-minus}
 use Rattle.checks.specs.Checks.{headFits, numbersFit}
 
 -- VALUES
-pub range-end : (m : ℕ) (zs : List ℤ) (i : ℕ) → length zs ≤ i → allInRange m (drop i zs) ≡ true
-range-end m zs i h = rw (drop-of-length-le zs h)
+test-next : (fit b c : Bool) → (fit && (b && c)) ≡ ((fit && b) && c)
+test-next true b c = refl
+test-next false b c = refl
 
--- The code reads a value as its 32 bits.
-module _ (m : ℕ) (zs : List ℤ) (i : ℕ) (inside : i < length zs) (f : mag (getD zs i (pos 0)) < 2 ^ 31) where
-  value-read : {b : Bool} → inRange m (toZ w32 (ofZ w32 (getD zs i (pos 0)))) ≡ b → inRange m (getD zs i (pos 0)) ≡ b
-  value-read h = rw (toZ-ofZ {w = w32} {z = getD zs i (pos 0)} (record { sfits = f })) at h
+-- One value more. The code reads it as its 32 bits.
+pub range-next : (m : ℕ) (zs : List ℤ) (i : ℕ) → i < length zs → mag (getD zs i (pos 0)) < 2 ^ 31 → (fit r now : Bool) →
+    r ≡ inRange m (toZ w32 (ofZ w32 (getD zs i (pos 0)))) → now ≡ (fit && r) →
+    (fit && allInRange m (drop i zs)) ≡ (now && allInRange m (drop (i + 1) zs))
+range-next m zs i inside f fit r now h n =
+    let e : r ≡ inRange m (getD zs i (pos 0)) = rw (toZ-ofZ {w = w32} {z = getD zs i (pos 0)} (record { sfits = f })) at h in
+    rw (n, e, add-one i, drop-cons zs i (pos 0) inside) (test-next fit (inRange m (getD zs i (pos 0))) (allInRange m (drop (suc i) zs)))
 
-  pub range-more : inRange m (toZ w32 (ofZ w32 (getD zs i (pos 0)))) ≡ true → allInRange m (drop i zs) ≡ allInRange m (drop (i + 1) zs)
-  range-more h = rw (add-one i, drop-cons zs i (pos 0) inside, value-read h)
-
-  pub range-not : inRange m (toZ w32 (ofZ w32 (getD zs i (pos 0)))) ≡ false → allInRange m (drop i zs) ≡ false
-  range-not h = rw (drop-cons zs i (pos 0) inside, value-read h)
+-- The last one passed.
+pub range-end : (m : ℕ) (zs : List ℤ) (i : ℕ) (fit : Bool) → length zs ≤ i → (fit && allInRange m (drop i zs)) ≡ fit
+range-end m zs i true h = rw (drop-of-length-le zs h)
+range-end m zs i false h = refl
 
 -- SHR. The code's `(n as i64) - k`.
 module _ (n k : ℕ) (hn : n < 2 ^ 32) (hk : k < 2 ^ 32) where

@@ -1,5 +1,6 @@
 // The checks of the calls start and grant.
 ghost use mathlib.Core.Path.{_≡_};
+ghost use mathlib.Core.Bool.{_&&_};
 ghost use mathlib.Core.List.{List};
 ghost use Prim.Native.Nat.{ℕ, _≤_};
 ghost use lib.IntN.{ℤ};
@@ -38,19 +39,27 @@ pub fn start_refusal(p: Parameters, image: &[u32], registers: &[i32], cells: &[i
     0
 }
 
-// Each value is in -M..M-1.
+fn both(a: bool, b: bool) -> bool
+    ensures { λ r. ⌜ r ≡ (a && b) ⌝ }
+{
+    if a {
+        return b;
+    }
+    false
+}
+
+// Each value is in -M..M-1. No test ends the loop, so that several are made at once.
 fn values_fit(m: u32, values: &[i32]) -> bool
     requires { ⌜ IsLimit m ⌝ }
     ensures { λ r. ⌜ r ≡ allInRange m (now (values .entry)) ⌝ }
 {
+    let mut fit = true;
     let mut i = 0;
     while i < values.len() {
-        if !in_range(m, values[i]) {
-            return false;
-        }
+        fit = both(fit, in_range(m, values[i]));
         i += 1;
     }
-    true
+    fit
 }
 
 // SHR is B-1..S-1, tested in 64 bits.

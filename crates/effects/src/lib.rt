@@ -8,6 +8,9 @@ ghost use Rattle.plans.specs.Plans.{registersAfter, cellsAfter, valuesOf};
 ghost use Rattle.effects.specs.Effects.{outputAfter, Indexed};
 use plans::Plan;
 
+// The values of a block.
+const BLOCK: usize = 512;
+
 // Zero in each place.
 pub fn clear(values: &mut [i32])
     ensures { λ _. ⌜ now (values .exit) ≡ replicate (length (now (values .entry))) (pos 0) ⌝ }
@@ -19,8 +22,8 @@ pub fn clear(values: &mut [i32])
     }
 }
 
-// The values at the front of the output.
-fn dump(values: &[i32], out: &mut [i32])
+// The values at the front of the output, one by one.
+fn copy(values: &[i32], out: &mut [i32])
     requires { ⌜ length (now values) ≤ length (now out) ⌝ }
     ensures { λ _. ⌜ now (out .exit) ≡ outputAfter (now (values .entry)) (now (out .entry)) ⌝ }
 {
@@ -29,6 +32,30 @@ fn dump(values: &[i32], out: &mut [i32])
         out[count] = values[count];
         count += 1;
     }
+}
+
+// A block of values. By way of a local array the compiler sees that neither copy overlaps, and moves the block as a whole.
+fn copy_block(values: &[i32], out: &mut [i32])
+    requires { ⌜ (length (now values) ≡ 512) × (512 ≤ length (now out)) ⌝ }
+    ensures { λ _. ⌜ now (out .exit) ≡ outputAfter (now (values .entry)) (now (out .entry)) ⌝ }
+{
+    let mut block = [0i32; BLOCK];
+    copy(values, &mut block);
+    copy(&block, out)
+}
+
+// The values at the front of the output.
+fn dump(values: &[i32], out: &mut [i32])
+    requires { ⌜ length (now values) ≤ length (now out) ⌝ }
+    ensures { λ _. ⌜ now (out .exit) ≡ outputAfter (now (values .entry)) (now (out .entry)) ⌝ }
+{
+    let mut at = 0;
+    while BLOCK <= values.len() - at {
+        let end = at + BLOCK;
+        copy_block(&values[at..end], &mut out[at..]);
+        at = end;
+    }
+    copy(&values[at..], &mut out[at..])
 }
 
 // One value at the front of the output.

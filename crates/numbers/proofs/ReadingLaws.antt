@@ -1,7 +1,7 @@
 -- A number byte by byte, as the loop that reads it meets it, and its range. Assumes nothing.
 use Prim.Native.Nat.{ℕ, zero, suc, _+_, _*_, _-_, _^_, _≤_, _<_, min}
 use mathlib.Core.Path.{_≡_, refl, sym, ap, _∙_}
-use mathlib.Core.Bool.{Bool, true, false, cond}
+use mathlib.Core.Bool.{Bool, true, false, _&&_, cond}
 use mathlib.Core.List.{List, [], _∷_}
 use mathlib.Core.Option.{Option, none, some}
 use native.Mathlib.Decide.{decLt}
@@ -16,7 +16,9 @@ use Rattle.model.specs.Parameters.{inRange}
 use Rattle.model.specs.Arithmetic.{value, code}
 use Rattle.model.specs.Numbers.{isDigit, digitsFrom, natural, mapped, number}
 use Rattle.model.specs.Step.{inputNumber}
+use Rattle.model.proofs.Fits.{both}
 use Rattle.model.proofs.Ranges.{range-mag, mag-range}
+use Rattle.numbers.specs.declared.reading.Digits.the-variants.{Value, Invalid}
 use Rattle.numbers.specs.declared.reading.Reading.{Reading}
 use Rattle.numbers.specs.declared.reading.Reading.the-variants.{Number, Outside}
 use Rattle.numbers.specs.Reading.{capped, positiveOf, negativeOf, readingOf, answerOf}
@@ -26,17 +28,65 @@ pub digits-end : (w : List ℕ) (i n : ℕ) → length w ≤ i → digitsFrom n 
 unfolding digitsFrom
 digits-end w i n h = rw (drop-of-length-le w h)
 
+digit-first : (b : ℕ) (s : List ℕ) (n : ℕ) → isDigit b ≡ true → digitsFrom n (b ∷ s) ≡ digitsFrom (n * 10 + (b - 48)) s
+unfolding digitsFrom
+digit-first b s n h = simp (digitsFrom, h)
+
+no-digit-first : (b : ℕ) (s : List ℕ) (n : ℕ) → isDigit b ≡ false → digitsFrom n (b ∷ s) ≡ none
+unfolding digitsFrom
+no-digit-first b s n h = simp (digitsFrom, h)
+
 module _ (w : List ℕ) (i : ℕ) (inside : i < length w) where
   pub natural-at : natural (drop i w) ≡ digitsFrom 0 (drop i w)
   natural-at = rw (drop-cons w i 0)
 
   pub digit : (n : ℕ) → isDigit (getD w i 0) ≡ true → digitsFrom n (drop i w) ≡ digitsFrom (n * 10 + (getD w i 0 - 48)) (drop (i + 1) w)
-  unfolding digitsFrom
-  digit n h = rw (add-one, drop-cons w i 0) (simp (digitsFrom, h))
+  digit n h = rw (add-one, drop-cons w i 0) (digit-first (getD w i 0) (drop (suc i) w) n h)
 
   pub no-digit : (n : ℕ) → isDigit (getD w i 0) ≡ false → digitsFrom n (drop i w) ≡ none
-  unfolding digitsFrom
-  no-digit n h = rw (drop-cons w i 0) (simp (digitsFrom, h))
+  no-digit n h = rw (drop-cons w i 0) (no-digit-first (getD w i 0) (drop (suc i) w) n h)
+
+-- A zero in front.
+pub zero-digit : (w : List ℕ) (i : ℕ) → i < length w → getD w i 0 ≡ 48 → digitsFrom 0 (drop i w) ≡ digitsFrom 0 (drop (i + 1) w)
+zero-digit w i inside z = digit w i inside 0 (rw z) ∙ rw z
+
+-- BEHIND A VALUE OF 2^30 OR MORE
+-- All are digits.
+unfoldable pub allDigits : List ℕ → Bool
+allDigits [] = true
+allDigits (b ∷ s) = isDigit b && allDigits s
+
+pub rest-value : (s : List ℕ) (e : ℕ) → 2 ^ 30 ≤ e → allDigits s ≡ true → Value (2 ^ 30) ≡ capped (digitsFrom e s)
+unfolding digitsFrom allDigits
+rest-value [] e h k = ap Value (omega arith)
+rest-value (b ∷ s) e h k =
+    let d = both (isDigit b) (allDigits s) k in
+    rest-value s (e * 10 + (b - 48)) (omega arith) (d .1) ∙ ap capped (sym (digit-first b s e (d .0)))
+
+pub rest-none : (s : List ℕ) (e : ℕ) → allDigits s ≡ false → Invalid ≡ capped (digitsFrom e s)
+unfolding digitsFrom allDigits
+rest-none [] e k = cc
+rest-none (b ∷ s) e k = go (isDigit b) refl (rest-none s (e * 10 + (b - 48)))
+  where
+    go : (d : Bool) → isDigit b ≡ d → (allDigits s ≡ false → Invalid ≡ capped (digitsFrom (e * 10 + (b - 48)) s)) →
+        Invalid ≡ capped (digitsFrom e (b ∷ s))
+    go true d ih = ih (rw d at k) ∙ ap capped (sym (digit-first b s e d))
+    go false d ih = ap capped (sym (no-digit-first b s e d))
+
+-- One byte more, and the last one passed.
+test-next : (all b c : Bool) → (all && (b && c)) ≡ ((all && b) && c)
+test-next true b c = refl
+test-next false b c = refl
+
+pub all-next : (w : List ℕ) (i : ℕ) → i < length w → (all now : Bool) → now ≡ (all && isDigit (getD w i 0)) →
+    (all && allDigits (drop i w)) ≡ (now && allDigits (drop (i + 1) w))
+unfolding allDigits
+all-next w i inside all now h = rw (h, add-one i, drop-cons w i 0 inside) (test-next all (isDigit (getD w i 0)) (allDigits (drop (suc i) w)))
+
+pub all-end : (w : List ℕ) (i : ℕ) (all : Bool) → length w ≤ i → (all && allDigits (drop i w)) ≡ all
+unfolding allDigits
+all-end w i true h = rw (drop-of-length-le w h)
+all-end w i false h = refl
 
 -- THE FIRST BYTE
 pub number-none : (w : List ℕ) → length w ≡ 0 → number w ≡ none

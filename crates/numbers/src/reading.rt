@@ -1,9 +1,9 @@
 // Decimal numbers in a word.
 ghost use mathlib.Core.Path.{_≡_};
-ghost use mathlib.Core.Bool.{true};
-ghost use Prim.Native.Nat.{_+_, _-_, _*_, _^_, _≤_, min};
-ghost use lib.ListN.{drop};
-ghost use Rattle.model.specs.Numbers.{isDigit, natural, number};
+ghost use mathlib.Core.Bool.{true, _&&_};
+ghost use Prim.Native.Nat.{ℕ, _+_, _-_, _*_, _^_, _≤_, min};
+ghost use lib.ListN.{length, drop};
+ghost use Rattle.model.specs.Numbers.{isDigit, digitsFrom, natural, number};
 ghost use Rattle.model.specs.Step.{inputNumber};
 ghost use Rattle.numbers.specs.Reading.{capped, positiveOf, negativeOf, readingOf, answerOf};
 use text::bytes::is_digit;
@@ -33,6 +33,43 @@ fn append_digit(n: u64, b: u8) -> u64
     if v < CAP { v } else { CAP }
 }
 
+fn also_digit(all: bool, b: u8) -> bool
+    ensures { λ r. ⌜ r ≡ (all && isDigit b) ⌝ }
+{
+    if all {
+        return is_digit(b);
+    }
+    false
+}
+
+// Behind digits whose value is CAP or more only the form counts. No test ends the loop, so that several are made at once.
+fn read_rest(w: &[u8], from: usize) -> Digits
+    ensures { λ r. ⌜ ((e : ℕ) → 2 ^ 30 ≤ e → r ≡ capped (digitsFrom e (drop from (now (w .entry))))) ⌝ }
+{
+    let mut all = true;
+    let mut i = from;
+    while i < w.len() {
+        all = also_digit(all, w[i]);
+        i += 1;
+    }
+    if all {
+        return Digits::Value(CAP);
+    }
+    Digits::Invalid
+}
+
+// The first byte from a place on that is no zero, or the word's end.
+fn skip_zeros(w: &[u8], from: usize) -> usize
+    requires { ⌜ from ≤ length (now w) ⌝ }
+    ensures { λ r. ⌜ (r ≤ length (now (w .entry))) × (digitsFrom 0 (drop from (now (w .entry))) ≡ digitsFrom 0 (drop r (now (w .entry)))) ⌝ }
+{
+    let mut i = from;
+    while i < w.len() && w[i] == b'0' {
+        i += 1;
+    }
+    i
+}
+
 // The value of the digits of w from a place on, of which there is at least one.
 pub fn read_digits(w: &[u8], from: usize) -> Digits
     ensures { λ r. ⌜ r ≡ capped (natural (drop from (now (w .entry)))) ⌝ }
@@ -41,7 +78,7 @@ pub fn read_digits(w: &[u8], from: usize) -> Digits
         return Digits::Invalid;
     }
     let mut n: u64 = 0;
-    let mut i = from;
+    let mut i = skip_zeros(w, from);
     while i < w.len() {
         let b = w[i];
         if !is_digit(b) {
@@ -49,6 +86,9 @@ pub fn read_digits(w: &[u8], from: usize) -> Digits
         }
         n = append_digit(n, b);
         i += 1;
+        if n == CAP {
+            return read_rest(w, i);
+        }
     }
     Digits::Value(n)
 }

@@ -3,10 +3,13 @@ ghost use mathlib.Core.Path.{_≡_};
 ghost use Rattle.model.specs.Numbers.{isBlank, isDigit, upper};
 ghost use Rattle.model.specs.Load.{isSeparator, isComment};
 
-// Space, tab, CR and LF: what stands between the numbers of an input.
+// Space, tab, CR and LF: what stands between the numbers of an input. Most bytes are none by one test.
 pub fn is_blank(b: u8) -> bool
     ensures { λ r. ⌜ r ≡ isBlank b ⌝ }
 {
+    if b' ' < b {
+        return false;
+    }
     match b {
         b' ' | b'\t' | b'\r' | b'\n' => true,
         _ => false,

@@ -1,20 +1,20 @@
--- `values_fit` meets its contract: what is left to test is the rest of the values. Assumes nothing.
+-- `values_fit` meets its contract: the values passed fit, and what is left to test is the rest. Assumes nothing.
 use Prim.Native.Nat.{_-_}
+use mathlib.Core.Bool.{_&&_}
 use mathlib.Core.Path.{_≡_, refl, sym, _∙_}
 use lib.ListN.{length, drop}
 use borrow.Author.Needs.{needs}
-use borrow.Author.Tests.{not-true, not-false}
 use denote.Ref.{now}
 use Rattle.model.specs.Calls.{allInRange}
-use Rattle.checks.proofs.RecordLaws.{range-end, range-more, range-not}
+use Rattle.checks.proofs.RecordLaws.{range-next, range-end}
 use Rattle.checks.proofs.values_fit.Statement.{statement}
 use Rattle.checks.proofs.values_fit.Tie as tie
 
 abbrev Inv-loop : tie.InvT-loop
-Inv-loop m values i₀ i = allInRange m values ≡ allInRange m (drop i values)
+Inv-loop m values fit₀ i₀ fit i = allInRange m values ≡ (fit && allInRange m (drop i values))
 
 abbrev μ-loop : tie.MeasureT-loop
-μ-loop m values i₀ i = length values - i
+μ-loop m values fit₀ i₀ fit i = length values - i
 
 loop-holds : tie.Need-loop-holds Inv-loop μ-loop
 loop-holds c = refl
@@ -28,12 +28,8 @@ shared-slice-copy-out-in-range c = search needs
 in-range-requires : tie.Need-in-range-requires Inv-loop μ-loop
 in-range-requires c κs = c .before .before .before .pre
 
-returns : tie.Need-returns Inv-loop μ-loop
-returns c =
-    let at = c .before .before .before .before in
-    let a = at .before .args in
-    sym (at .loop .inv ∙ range-not (a .m) (now (a .values)) (at .loop .i) (c .before .before .before .loop-test .taken)
-    (c .before .before .in-range-arg .given) (sym (c .before .in-range .ensures) ∙ not-true _ (c .if1 .taken)))
+both-requires : tie.Need-both-requires Inv-loop μ-loop
+both-requires c κs = search needs
 
 add-i : tie.Need-add-i Inv-loop μ-loop
 add-i c = search needs
@@ -43,15 +39,17 @@ loop-less c = search needs
 
 loop-again : tie.Need-loop-again Inv-loop μ-loop
 loop-again c =
-    let at = c .before .before .before .before in
+    let l = c .before .before .before in
+    let at = l .before in
     let a = at .before .args in
-    at .loop .inv ∙ range-more (a .m) (now (a .values)) (at .loop .i) (c .before .before .before .loop-test .taken)
-    (c .before .before .in-range-arg .given) (sym (c .before .in-range .ensures) ∙ not-false _ (c .if1 .left))
+    at .loop .inv
+    ∙ range-next (a .m) (now (a .values)) (at .loop .i) (l .loop-test .taken) (c .before .before .in-range-arg .given) (at .loop .fit) _ _
+    (c .before .in-range .ensures) (c .both .ensures)
 
-returns-2 : tie.Need-returns-2 Inv-loop μ-loop
-returns-2 c =
+returns : tie.Need-returns Inv-loop μ-loop
+returns c =
     let at = c .before in
-    sym (at .loop .inv ∙ range-end (at .before .args .m) (now (at .before .args .values)) (at .loop .i) (c .loop-test .left))
+    sym (at .loop .inv ∙ range-end (at .before .args .m) (now (at .before .args .values)) (at .loop .i) (at .loop .fit) (c .loop-test .left))
 
 pub values-fit-spec : {M : Type 1} → statement M
 values-fit-spec =
@@ -63,8 +61,8 @@ values-fit-spec =
     mul-in-range
     shared-slice-copy-out-in-range
     in-range-requires
-    returns
+    both-requires
     add-i
     loop-less
     loop-again
-    returns-2)
+    returns)

@@ -1,0 +1,44 @@
+-- `copy_block` meets its contract. Assumes nothing.
+use mathlib.Core.List.{List}
+use mathlib.Core.Path.{ap, _∙_}
+use native.Mathlib.Omega.{arith}
+use lib.IntN.{ℤ}
+use borrow.Author.Needs.{needs}
+use denote.Ref.{now}
+use Rattle.effects.specs.Effects.{outputAfter}
+use Rattle.effects.proofs.CopyLaws.{all-over}
+use Rattle.effects.proofs.copy_block.Statement.{statement}
+use Rattle.effects.proofs.copy_block.Tie as tie
+
+slice-aggregate-copy : tie.Need-slice-aggregate-copy
+slice-aggregate-copy c = search needs
+
+copy-requires : tie.Need-copy-requires
+copy-requires c κs = search needs
+
+slice-aggregate-copy-2 : tie.Need-slice-aggregate-copy-2
+slice-aggregate-copy-2 c = search needs
+
+copy-requires-2 : tie.Need-copy-requires-2
+copy-requires-2 c κs = search needs
+
+same-length : tie.Need-same-length
+same-length c = search needs
+
+returns : tie.Need-returns
+returns c =
+    let start = c .before .before .before .before .before .before .before in
+    let filled = c .before .before .before .before .before .copy .ensures in
+    let block = filled ∙ all-over (now (start .args .values)) _ (omega (arith, start .pre .0)) in
+    c .before .copy2 .ensures ∙ ap (λ (r : List ℤ). outputAfter r (now (start .args .out))) block
+
+pub copy-block-spec : {M : Type 1} → statement M
+copy-block-spec =
+    tie.close
+    (tie.spec
+    slice-aggregate-copy
+    copy-requires
+    slice-aggregate-copy-2
+    copy-requires-2
+    same-length
+    returns)
