@@ -164,24 +164,24 @@ fn rows() -> Vec<Row> {
             usual(programs::MOVES, 300_000_000),
         ),
         grants(
-            "greatest common divisors, 3·10^8",
-            usual(programs::GCD, 300_000_000),
+            "greatest common divisors, one grant of 10^9",
+            usual(programs::GCD, 1_000_000_000),
         ),
         grants(
-            "search for primes, 3·10^8",
-            usual(programs::PRIMES, 300_000_000),
+            "search for primes, one grant of 10^9",
+            usual(programs::PRIMES, 1_000_000_000),
         ),
         grants(
-            "counting loop with compare and jump, 3·10^8",
-            usual(programs::COUNTING, 300_000_000),
+            "counting loop with compare and jump, one grant of 10^9",
+            usual(programs::COUNTING, 1_000_000_000),
         ),
         grants(
-            "recursion with computed returns, 3·10^8",
-            usual(programs::RECURSION, 300_000_000),
+            "recursion with computed returns, one grant of 10^9",
+            usual(programs::RECURSION, 1_000_000_000),
         ),
         grants(
-            "loop of PUSH and POP, 3·10^8",
-            usual(programs::STACK, 300_000_000),
+            "loop of PUSH and POP, one grant of 10^9",
+            usual(programs::STACK, 1_000_000_000),
         ),
         grants(
             "DUMP_DATA_MEM at S = 4096, 400 grants of 40 dumps",

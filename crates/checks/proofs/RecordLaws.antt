@@ -1,6 +1,6 @@
 -- The test of a record and its memory, refusal 15. Assumes nothing.
 use Prim.Native.Nat.{ℕ, suc, _+_, _^_, _≤_, _<_}
-use mathlib.Core.Bool.{Bool, true, false, _&&_}
+use mathlib.Core.Bool.{Bool, true, false, _&&_, and-assoc}
 use mathlib.Core.List.{List}
 use mathlib.Core.Path.{_≡_, refl, sym, ap, _∙_}
 use native.Mathlib.Numerals.{add-one}
@@ -22,17 +22,13 @@ use Rattle.cells.proofs.Integers.{mag-minus}
 use Rattle.checks.specs.Checks.{headFits, numbersFit}
 
 -- VALUES
-test-next : (fit b c : Bool) → (fit && (b && c)) ≡ ((fit && b) && c)
-test-next true b c = refl
-test-next false b c = refl
-
 -- One value more. The code reads it as its 32 bits.
 pub range-next : (m : ℕ) (zs : List ℤ) (i : ℕ) → i < length zs → mag (getD zs i (pos 0)) < 2 ^ 31 → (fit r now : Bool) →
     r ≡ inRange m (toZ w32 (ofZ w32 (getD zs i (pos 0)))) → now ≡ (fit && r) →
     (fit && allInRange m (drop i zs)) ≡ (now && allInRange m (drop (i + 1) zs))
 range-next m zs i inside f fit r now h n =
     let e : r ≡ inRange m (getD zs i (pos 0)) = rw (toZ-ofZ {w = w32} {z = getD zs i (pos 0)} (record { sfits = f })) at h in
-    rw (n, e, add-one i, drop-cons zs i (pos 0) inside) (test-next fit (inRange m (getD zs i (pos 0))) (allInRange m (drop (suc i) zs)))
+    rw (n, e, add-one i, drop-cons zs i (pos 0) inside) (sym (and-assoc fit (inRange m (getD zs i (pos 0))) (allInRange m (drop (suc i) zs))))
 
 -- The last one passed.
 pub range-end : (m : ℕ) (zs : List ℤ) (i : ℕ) (fit : Bool) → length zs ≤ i → (fit && allInRange m (drop i zs)) ≡ fit

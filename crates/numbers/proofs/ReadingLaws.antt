@@ -1,7 +1,7 @@
 -- A number byte by byte, as the loop that reads it meets it, and its range. Assumes nothing.
 use Prim.Native.Nat.{ℕ, zero, suc, _+_, _*_, _-_, _^_, _≤_, _<_, min}
 use mathlib.Core.Path.{_≡_, refl, sym, ap, _∙_}
-use mathlib.Core.Bool.{Bool, true, false, _&&_, cond}
+use mathlib.Core.Bool.{Bool, true, false, _&&_, cond, and-assoc}
 use mathlib.Core.List.{List, [], _∷_}
 use mathlib.Core.Option.{Option, none, some}
 use native.Mathlib.Decide.{decLt}
@@ -74,14 +74,10 @@ rest-none (b ∷ s) e k = go (isDigit b) refl (rest-none s (e * 10 + (b - 48)))
     go false d ih = ap capped (sym (no-digit-first b s e d))
 
 -- One byte more, and the last one passed.
-test-next : (all b c : Bool) → (all && (b && c)) ≡ ((all && b) && c)
-test-next true b c = refl
-test-next false b c = refl
-
 pub all-next : (w : List ℕ) (i : ℕ) → i < length w → (all now : Bool) → now ≡ (all && isDigit (getD w i 0)) →
     (all && allDigits (drop i w)) ≡ (now && allDigits (drop (i + 1) w))
 unfolding allDigits
-all-next w i inside all now h = rw (h, add-one i, drop-cons w i 0 inside) (test-next all (isDigit (getD w i 0)) (allDigits (drop (suc i) w)))
+all-next w i inside all now h = rw (h, add-one i, drop-cons w i 0 inside) (sym (and-assoc all (isDigit (getD w i 0)) (allDigits (drop (suc i) w))))
 
 pub all-end : (w : List ℕ) (i : ℕ) (all : Bool) → length w ≤ i → (all && allDigits (drop i w)) ≡ all
 unfolding allDigits
