@@ -14,8 +14,8 @@ use Rattle.model.specs.declared.Parameters.{Parameters}
 use Rattle.model.specs.declared.Record.{Record}
 use Rattle.model.specs.declared.StartReply.{StartReply}
 use Rattle.machine.specs.Contracts.{StartIs, GrantIs}
-use Rattle.tak.specs.Calls.{recordAfter, takLoad, startReplied, takStart, outcomeEnding, grantReplied, takGrant}
-use Rattle.tak.specs.Records.{recordFrom}
+use Rattle.tak.specs.Calls.{takLoad, startReplied, takStart, outcomeEnding, grantReplied, takGrant}
+use Rattle.records.specs.Records.{recordAfter, recordFrom}
 
 -- LOAD
 module _ (p : Parameters) (text image : List ℕ) where

@@ -1,5 +1,3 @@
-pub mod Held
-pub mod Numbers
 pub mod Narrow
 pub mod CallLaws
 pub mod Exact

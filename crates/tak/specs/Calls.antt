@@ -13,7 +13,7 @@ use Rattle.model.specs.declared.Parameters.{Parameters}
 use Rattle.model.specs.declared.Record.{Record}
 use Rattle.model.specs.Calls.{Started, started, Granted, granted, outcomeNumber, Spelled, spelled}
 use Rattle.model.specs.Load.{loadReply, imageAfter, loadNumbers}
-use Rattle.tak.specs.Records.{numbersOf, recordFrom}
+use Rattle.records.specs.Records.{recordFrom, recordAfter}
 
 -- The parameters, as each call has them.
 abbrev pub parametersOf : (k n s b t : ℕ) → Parameters
@@ -36,10 +36,6 @@ takLoad p text image =
       line = loadNumbers reply .line;
       image = imageAfter p text image reply;
     }
-
--- The record slice after a call: its record where the number is 0; a refusal leaves the slice.
-unfoldable pub recordAfter : (number : ℕ) → Record → (old : List ℤ) → List ℤ
-recordAfter number rec old = cond (eqb number 0) (numbersOf rec) old
 
 -- START: what it returns, the registers, the data cells and the record.
 pub record StartCall : Type 0 where

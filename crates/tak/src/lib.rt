@@ -4,9 +4,6 @@ ghost use mathlib.Core.Path.{_≡_};
 ghost use Rattle.model.specs.Calls.{outcomeNumber};
 ghost use Rattle.model.specs.Load.{loadNumbers};
 ghost use Rattle.tak.specs.Calls.{parametersOf, endingNumber, outcomeEnding, takLoad, takStart, takGrant, takDecimal};
-use crate::record::RECORD;
-use crate::record::hand_back;
-use crate::record::record_from;
 use loader::load;
 use machine::grant;
 use machine::start;
@@ -14,9 +11,10 @@ use model::Ending;
 use model::LoadReply;
 use model::Outcome;
 use model::Parameters;
+use records::RECORD;
+use records::hand_back;
+use records::record_from;
 use writer::decimal::write_decimal;
-
-mod record;
 
 // A record slice of another length, TAK_RECORD_SIZE: the one number of a refusal that document 01 does not have.
 const RECORD_SIZE: u32 = 100;

@@ -10,7 +10,7 @@ use mir.Facts.{toZ-pos, toZ-ofZ}
 use mir.Syntax.{w32, w64}
 use mir.Val.{Fits, SFits, toZ, ofZ}
 use Rattle.model.specs.declared.Record.{Record}
-use Rattle.tak.specs.Records.{numbersOf, Narrow}
+use Rattle.records.specs.Records.{numbersOf, Narrow}
 
 -- A store to every place of a list.
 pub sets-all : (l vs : List ℤ) → length l ≡ length vs → sets l 0 vs ≡ vs

@@ -2,7 +2,7 @@
 use Prim.Native.Nat.{ℕ, _<_, _^_}
 use mathlib.Core.Bool.{cond}
 use mathlib.Core.List.{List, [], _∷_}
-use lib.Dec.{leb}
+use lib.Dec.{eqb, leb}
 use lib.IntN.{ℤ, pos, negsuc}
 use lib.ListN.{getD}
 use Rattle.model.specs.declared.Record.{Record}
@@ -52,6 +52,10 @@ numbersOf r =
     ∷ pos (r .granted)
     ∷ pos (r .spent)
     ∷ []
+
+-- The record slice after a call: its record where the number is 0; a refusal leaves the slice.
+unfoldable pub recordAfter : (number : ℕ) → Record → (old : List ℤ) → List ℤ
+recordAfter number rec old = cond (eqb number 0) (numbersOf rec) old
 
 -- The fields that could be too great for the signed numbers of a slice are not. An accepted call's record is so (proofs/Narrow.antt).
 pub record Narrow (r : Record) : Type 0 where

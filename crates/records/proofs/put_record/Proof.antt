@@ -2,9 +2,9 @@
 use native.Mathlib.Omega.{arith}
 use lib.ListN.{length-set}
 use borrow.Author.Needs.{needs}
-use Rattle.tak.proofs.Numbers.{stores}
-use Rattle.tak.proofs.record.put_record.Statement.{statement}
-use Rattle.tak.proofs.record.put_record.Tie as tie
+use Rattle.records.proofs.Numbers.{stores}
+use Rattle.records.proofs.put_record.Statement.{statement}
+use Rattle.records.proofs.put_record.Tie as tie
 
 cast-numbers : tie.Need-cast-numbers
 cast-numbers c = search needs

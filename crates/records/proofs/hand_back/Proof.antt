@@ -1,9 +1,9 @@
 -- `hand_back` meets its contract. Assumes nothing.
 use borrow.Author.Needs.{needs}
 use borrow.Author.Tests.{eq-eqb, ne-eqb}
-use Rattle.tak.specs.Calls.{recordAfter}
-use Rattle.tak.proofs.record.hand_back.Statement.{statement}
-use Rattle.tak.proofs.record.hand_back.Tie as tie
+use Rattle.records.specs.Records.{recordAfter}
+use Rattle.records.proofs.hand_back.Statement.{statement}
+use Rattle.records.proofs.hand_back.Tie as tie
 
 put-record-requires : tie.Need-put-record-requires
 put-record-requires c κs = let start = c .before .before in (start .pre .0 (c .before .if1 .taken), start .pre .1)

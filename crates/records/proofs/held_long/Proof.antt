@@ -6,10 +6,10 @@ use mathlib.Core.Bool.{false}
 use lib.IntN.{pos, natAbs}
 use lib.Signed.{ltZ}
 use mir.Facts.{toZ-ofZ}
-use Rattle.tak.specs.Records.{most64}
-use Rattle.tak.proofs.Held.{held-negative, plain, held-plain}
-use Rattle.tak.proofs.record.held_long.Statement.{statement}
-use Rattle.tak.proofs.record.held_long.Tie as tie
+use Rattle.records.specs.Records.{most64}
+use Rattle.records.proofs.Held.{held-negative, plain, held-plain}
+use Rattle.records.proofs.held_long.Statement.{statement}
+use Rattle.records.proofs.held_long.Tie as tie
 
 returns : tie.Need-returns
 returns c = let s = c .before in sym (held-negative _ (s .args .z) (rw (toZ-ofZ (s .fits .z)) at (c .if1 .taken)))

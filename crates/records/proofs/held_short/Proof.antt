@@ -5,10 +5,10 @@ use mathlib.Core.Bool.{false}
 use lib.IntN.{pos}
 use lib.Signed.{ltZ}
 use mir.Facts.{toZ-ofZ}
-use Rattle.tak.specs.Records.{most32}
-use Rattle.tak.proofs.Held.{held-negative, held-above, plain, not-above, held-plain}
-use Rattle.tak.proofs.record.held_short.Statement.{statement}
-use Rattle.tak.proofs.record.held_short.Tie as tie
+use Rattle.records.specs.Records.{most32}
+use Rattle.records.proofs.Held.{held-negative, held-above, plain, not-above, held-plain}
+use Rattle.records.proofs.held_short.Statement.{statement}
+use Rattle.records.proofs.held_short.Tie as tie
 
 returns : tie.Need-returns
 returns c = let s = c .before in sym (held-negative _ (s .args .z) (rw (toZ-ofZ (s .fits .z)) at (c .if1 .taken)))

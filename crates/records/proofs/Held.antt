@@ -10,7 +10,7 @@ use borrow.Author.Tests.{ltb-true, ltb-false, le-leb, lt-leb}
 use mir.Facts.{toZ-ofZ}
 use mir.Syntax.{w64}
 use mir.Val.{toZ, ofZ}
-use Rattle.tak.specs.Records.{held}
+use Rattle.records.specs.Records.{held}
 
 pub held-negative : (most : ℕ) (z : ℤ) → ltZ z (pos 0) ≡ true → held most z ≡ most
 unfolding held

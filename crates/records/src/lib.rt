@@ -1,8 +1,7 @@
 // A record as a lent slice of numbers.
 ghost use mathlib.Core.Path.{_≡_};
 ghost use lib.ListN.{length};
-ghost use Rattle.tak.specs.Calls.{recordAfter};
-ghost use Rattle.tak.specs.Records.{held, most32, most64, recordFrom, numbersOf, Narrow};
+ghost use Rattle.records.specs.Records.{held, most32, most64, recordFrom, numbersOf, recordAfter, Narrow};
 use model::Parameters;
 use model::Record;
 

@@ -6,10 +6,10 @@ use mir.Facts.{toZ-ofZ}
 use mir.Syntax.{w64}
 use mir.Val.{SFits}
 use borrow.Author.Needs.{needs}
-use Rattle.tak.specs.Records.{most32, most64, at}
-use Rattle.tak.proofs.Held.{held-read}
-use Rattle.tak.proofs.record.record_from.Statement.{statement}
-use Rattle.tak.proofs.record.record_from.Tie as tie
+use Rattle.records.specs.Records.{most32, most64, at}
+use Rattle.records.proofs.Held.{held-read}
+use Rattle.records.proofs.record_from.Statement.{statement}
+use Rattle.records.proofs.record_from.Tie as tie
 
 shared-slice-copy-out-held-short : tie.Need-shared-slice-copy-out-held-short
 shared-slice-copy-out-held-short c = search needs
