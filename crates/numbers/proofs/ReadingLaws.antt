@@ -1,7 +1,7 @@
 -- A number byte by byte, as the loop that reads it meets it, and its range. Assumes nothing.
 use Prim.Native.Nat.{ℕ, zero, suc, _+_, _*_, _-_, _^_, _≤_, _<_, min}
 use mathlib.Core.Path.{_≡_, refl, sym, ap, _∙_}
-use mathlib.Core.Bool.{Bool, true, false, _&&_, cond, and-assoc}
+use mathlib.Core.Bool.{Bool, true, false, cond}
 use mathlib.Core.List.{List, [], _∷_}
 use mathlib.Core.Option.{Option, none, some}
 use native.Mathlib.Decide.{decLt}
@@ -11,78 +11,37 @@ use lib.IntN.{ℤ, pos, negsuc, negℤ}
 use lib.ListN.{length, getD, drop, drop-of-length-le}
 use lib.Seq.{drop-cons}
 use lib.Signed.{mag}
-use borrow.Author.Tests.{lt-ltb, le-ltb, le-leb, lt-leb, ne-eqb}
+use borrow.Author.Tests.{lt-ltb, le-ltb, le-leb, lt-leb, ne-eqb, eqb-true, eqb-false}
+use lib.Dec.{eqb}
 use Rattle.model.specs.Parameters.{inRange}
 use Rattle.model.specs.Arithmetic.{value, code}
 use Rattle.model.specs.Numbers.{isDigit, digitsFrom, natural, mapped, number}
 use Rattle.model.specs.Step.{inputNumber}
-use Rattle.model.proofs.Fits.{both}
 use Rattle.model.proofs.Ranges.{range-mag, mag-range}
-use Rattle.numbers.specs.declared.reading.Digits.the-variants.{Value, Invalid}
 use Rattle.numbers.specs.declared.reading.Reading.{Reading}
 use Rattle.numbers.specs.declared.reading.Reading.the-variants.{Number, Outside}
-use Rattle.numbers.specs.Reading.{capped, positiveOf, negativeOf, readingOf, answerOf}
+use Rattle.numbers.specs.Reading.{capped, signLength, positiveOf, negativeOf, readingOf, answerOf}
 
 -- DIGITS
 pub digits-end : (w : List ℕ) (i n : ℕ) → length w ≤ i → digitsFrom n (drop i w) ≡ some n
 unfolding digitsFrom
 digits-end w i n h = rw (drop-of-length-le w h)
 
-digit-first : (b : ℕ) (s : List ℕ) (n : ℕ) → isDigit b ≡ true → digitsFrom n (b ∷ s) ≡ digitsFrom (n * 10 + (b - 48)) s
-unfolding digitsFrom
-digit-first b s n h = simp (digitsFrom, h)
-
-no-digit-first : (b : ℕ) (s : List ℕ) (n : ℕ) → isDigit b ≡ false → digitsFrom n (b ∷ s) ≡ none
-unfolding digitsFrom
-no-digit-first b s n h = simp (digitsFrom, h)
-
 module _ (w : List ℕ) (i : ℕ) (inside : i < length w) where
   pub natural-at : natural (drop i w) ≡ digitsFrom 0 (drop i w)
   natural-at = rw (drop-cons w i 0)
 
   pub digit : (n : ℕ) → isDigit (getD w i 0) ≡ true → digitsFrom n (drop i w) ≡ digitsFrom (n * 10 + (getD w i 0 - 48)) (drop (i + 1) w)
-  digit n h = rw (add-one, drop-cons w i 0) (digit-first (getD w i 0) (drop (suc i) w) n h)
+  unfolding digitsFrom
+  digit n h = rw (add-one, drop-cons w i 0) (simp (digitsFrom, h))
 
   pub no-digit : (n : ℕ) → isDigit (getD w i 0) ≡ false → digitsFrom n (drop i w) ≡ none
-  no-digit n h = rw (drop-cons w i 0) (no-digit-first (getD w i 0) (drop (suc i) w) n h)
+  unfolding digitsFrom
+  no-digit n h = rw (drop-cons w i 0) (simp (digitsFrom, h))
 
 -- A zero in front.
 pub zero-digit : (w : List ℕ) (i : ℕ) → i < length w → getD w i 0 ≡ 48 → digitsFrom 0 (drop i w) ≡ digitsFrom 0 (drop (i + 1) w)
 zero-digit w i inside z = digit w i inside 0 (rw z) ∙ rw z
-
--- BEHIND A VALUE OF 2^30 OR MORE
--- All are digits.
-unfoldable pub allDigits : List ℕ → Bool
-allDigits [] = true
-allDigits (b ∷ s) = isDigit b && allDigits s
-
-pub rest-value : (s : List ℕ) (e : ℕ) → 2 ^ 30 ≤ e → allDigits s ≡ true → Value (2 ^ 30) ≡ capped (digitsFrom e s)
-unfolding digitsFrom allDigits
-rest-value [] e h k = ap Value (omega arith)
-rest-value (b ∷ s) e h k =
-    let d = both (isDigit b) (allDigits s) k in
-    rest-value s (e * 10 + (b - 48)) (omega arith) (d .1) ∙ ap capped (sym (digit-first b s e (d .0)))
-
-pub rest-none : (s : List ℕ) (e : ℕ) → allDigits s ≡ false → Invalid ≡ capped (digitsFrom e s)
-unfolding digitsFrom allDigits
-rest-none [] e k = cc
-rest-none (b ∷ s) e k = go (isDigit b) refl (rest-none s (e * 10 + (b - 48)))
-  where
-    go : (d : Bool) → isDigit b ≡ d → (allDigits s ≡ false → Invalid ≡ capped (digitsFrom (e * 10 + (b - 48)) s)) →
-        Invalid ≡ capped (digitsFrom e (b ∷ s))
-    go true d ih = ih (rw d at k) ∙ ap capped (sym (digit-first b s e d))
-    go false d ih = ap capped (sym (no-digit-first b s e d))
-
--- One byte more, and the last one passed.
-pub all-next : (w : List ℕ) (i : ℕ) → i < length w → (all now : Bool) → now ≡ (all && isDigit (getD w i 0)) →
-    (all && allDigits (drop i w)) ≡ (now && allDigits (drop (i + 1) w))
-unfolding allDigits
-all-next w i inside all now h = rw (h, add-one i, drop-cons w i 0 inside) (sym (and-assoc all (isDigit (getD w i 0)) (allDigits (drop (suc i) w))))
-
-pub all-end : (w : List ℕ) (i : ℕ) (all : Bool) → length w ≤ i → (all && allDigits (drop i w)) ≡ all
-unfolding allDigits
-all-end w i true h = rw (drop-of-length-le w h)
-all-end w i false h = refl
 
 -- THE FIRST BYTE
 pub number-none : (w : List ℕ) → length w ≡ 0 → number w ≡ none
@@ -90,14 +49,22 @@ number-none [] h = refl
 number-none (b ∷ s) h = absurd (omega arith)
 
 module _ (w : List ℕ) (inside : 0 < length w) where
-  pub number-plus : getD w 0 0 ≡ 43 → number w ≡ mapped pos (natural (drop 1 w))
+  number-plus : getD w 0 0 ≡ 43 → number w ≡ mapped pos (natural (drop 1 w))
   number-plus e = rw (drop-cons w 0 0) (simp e)
 
   pub number-minus : getD w 0 0 ≡ 45 → number w ≡ mapped (λ n. negℤ (pos n)) (natural (drop 1 w))
   number-minus e = rw (drop-cons w 0 0) (simp e)
 
-  pub number-plain : ¬ (getD w 0 0 ≡ 43) → ¬ (getD w 0 0 ≡ 45) → number w ≡ mapped pos (natural w)
+  number-plain : ¬ (getD w 0 0 ≡ 43) → ¬ (getD w 0 0 ≡ 45) → number w ≡ mapped pos (natural w)
   number-plain p m = rw (drop-cons w 0 0) (simp (number, ne-eqb _ _ p, ne-eqb _ _ m))
+
+  -- Behind the sign, where it is no minus.
+  pub number-other : ¬ (getD w 0 0 ≡ 45) → number w ≡ mapped pos (natural (drop (signLength (getD w 0 0)) w))
+  number-other m = go (eqb (getD w 0 0) 43) refl
+    where
+      go : (b : Bool) → eqb (getD w 0 0) 43 ≡ b → number w ≡ mapped pos (natural (drop (signLength (getD w 0 0)) w))
+      go true e = let p = eqb-true (getD w 0 0) 43 e in number-plus p ∙ rw p
+      go false e = number-plain (eqb-false (getD w 0 0) 43 e) m ∙ simp (e, ne-eqb _ _ m)
 
 -- THE ANSWER
 answer-is : (m : ℕ) (o : Option ℤ) → answerOf (readingOf m o) ≡ inputNumber m o

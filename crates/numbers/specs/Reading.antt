@@ -1,11 +1,13 @@
 -- What reading a number answers.
 use Prim.Native.Nat.{ℕ, _^_, min}
 use mathlib.Core.Bool.{cond}
+use mathlib.Core.List.{[], _∷_}
 use mathlib.Core.Option.{Option, none, some}
 use lib.Dec.{ltb, leb}
 use lib.IntN.{ℤ, pos, negℤ}
 use Rattle.model.specs.Parameters.{inRange}
 use Rattle.model.specs.Arithmetic.{Answer, value, code}
+use Rattle.model.specs.Numbers.{among}
 use Rattle.numbers.specs.declared.reading.Digits.{Digits}
 use Rattle.numbers.specs.declared.reading.Digits.the-variants.{Value, Invalid}
 use Rattle.numbers.specs.declared.reading.Reading.{Reading}
@@ -15,6 +17,10 @@ use Rattle.numbers.specs.declared.reading.Reading.the-variants.{NotANumb
 abbrev pub capped : Option ℕ → Digits
 capped none = Invalid
 capped (some n) = Value (min (2 ^ 30) n)
+
+-- "an optional + or -": how many bytes of a word are its sign, by its first byte.
+abbrev pub signLength : ℕ → ℕ
+signLength b = cond (among (43 ∷ 45 ∷ []) b) 1 0
 
 -- A number of -m..m-1. For load `NotANumber` is 13 and `Outside` 14.
 abbrev pub readingOf : (m : ℕ) → Option ℤ → Reading

@@ -1,11 +1,11 @@
 // Decimal numbers in a word.
 ghost use mathlib.Core.Path.{_≡_};
-ghost use mathlib.Core.Bool.{true, _&&_};
+ghost use mathlib.Core.Bool.{true};
 ghost use Prim.Native.Nat.{ℕ, _+_, _-_, _*_, _^_, _≤_, min};
 ghost use lib.ListN.{length, drop};
 ghost use Rattle.model.specs.Numbers.{isDigit, digitsFrom, natural, number};
 ghost use Rattle.model.specs.Step.{inputNumber};
-ghost use Rattle.numbers.specs.Reading.{capped, positiveOf, negativeOf, readingOf, answerOf};
+ghost use Rattle.numbers.specs.Reading.{capped, signLength, positiveOf, negativeOf, readingOf, answerOf};
 use text::bytes::is_digit;
 
 // Greater values are held as this one, which is outside every range already.
@@ -33,29 +33,18 @@ fn append_digit(n: u64, b: u8) -> u64
     if v < CAP { v } else { CAP }
 }
 
-fn also_digit(all: bool, b: u8) -> bool
-    ensures { λ r. ⌜ r ≡ (all && isDigit b) ⌝ }
-{
-    if all {
-        return is_digit(b);
-    }
-    false
-}
-
-// Behind digits whose value is CAP or more only the form counts. No test ends the loop, so that several are made at once.
+// Behind digits whose value is CAP or more only the form counts.
 fn read_rest(w: &[u8], from: usize) -> Digits
     ensures { λ r. ⌜ ((e : ℕ) → 2 ^ 30 ≤ e → r ≡ capped (digitsFrom e (drop from (now (w .entry))))) ⌝ }
 {
-    let mut all = true;
     let mut i = from;
     while i < w.len() {
-        all = also_digit(all, w[i]);
+        if !is_digit(w[i]) {
+            return Digits::Invalid;
+        }
         i += 1;
     }
-    if all {
-        return Digits::Value(CAP);
-    }
-    Digits::Invalid
+    Digits::Value(CAP)
 }
 
 // The first byte from a place on that is no zero, or the word's end.
@@ -127,6 +116,16 @@ fn negative(d: Digits, m: u32) -> Reading
     }
 }
 
+// 1 for a byte that is a sign.
+fn sign_length(b: u8) -> usize
+    ensures { λ r. ⌜ r ≡ signLength b ⌝ }
+{
+    match b {
+        b'+' | b'-' => 1,
+        _ => 0,
+    }
+}
+
 // The word as a number of -m..m-1.
 pub fn read_number(w: &[u8], m: u32) -> Reading
     requires { ⌜ (1 ≤ m) × (m ≤ 2 ^ 29) ⌝ }
@@ -137,11 +136,9 @@ pub fn read_number(w: &[u8], m: u32) -> Reading
         return Reading::NotANumber;
     }
     let b = w[0];
-    if b == b'+' {
-        return positive(read_digits(w, 1), m);
-    }
+    let d = read_digits(w, sign_length(b));
     if b == b'-' {
-        return negative(read_digits(w, 1), m);
+        return negative(d, m);
     }
-    positive(read_digits(w, 0), m)
+    positive(d, m)
 }

@@ -1,11 +1,12 @@
 -- `reading::read_number` meets its contract: the digits behind the sign, cut at the cap, are in range where the number is. Assumes nothing.
-use mathlib.Core.Path.{sym, ap, _∙_}
+use Prim.Native.Nat.{ℕ}
+use mathlib.Core.Path.{_≡_, sym, ap, _∙_}
 use borrow.Author.Needs.{needs}
 use denote.Ref.{now}
-use lib.ListN.{drop}
+use lib.ListN.{getD, drop}
 use Rattle.model.specs.Numbers.{natural, number}
-use Rattle.numbers.specs.Reading.{positiveOf, negativeOf, readingOf}
-use Rattle.numbers.proofs.ReadingLaws.{with-answer, number-none, number-plus, number-minus, number-plain, positive-capped, negative-capped}
+use Rattle.numbers.specs.Reading.{capped, signLength, positiveOf, negativeOf, readingOf}
+use Rattle.numbers.proofs.ReadingLaws.{with-answer, number-none, number-minus, number-other, positive-capped, negative-capped}
 use Rattle.numbers.proofs.reading.read_number.Statement.{statement}
 use Rattle.numbers.proofs.reading.read_number.Tie as tie
 
@@ -17,56 +18,43 @@ returns c =
 shared-slice-read-b : tie.Need-shared-slice-read-b
 shared-slice-read-b c = search needs
 
+sign-length-requires : tie.Need-sign-length-requires
+sign-length-requires c κs = search needs
+
 read-digits-requires : tie.Need-read-digits-requires
 read-digits-requires c κs = search needs
-
-positive-requires : tie.Need-positive-requires
-positive-requires c κs = search needs
-
-returns-2 : tie.Need-returns-2
-returns-2 c =
-    let at = c .before .before .before .before .before .before in
-    let m = at .args .m in
-    let w = now (at .args .w) in
-    with-answer m (number w)
-    (c .positive .ensures
-    ∙ ap (positiveOf m) (c .before .read-digits .ensures)
-    ∙ positive-capped m (at .pre .0) (at .pre .1) (natural (drop 1 w))
-    ∙ sym (ap (readingOf m) (number-plus w (search needs) (c .before .before .if2 .taken))))
-
-read-digits-requires-2 : tie.Need-read-digits-requires-2
-read-digits-requires-2 c κs = search needs
 
 negative-requires : tie.Need-negative-requires
 negative-requires c κs = search needs
 
-returns-3 : tie.Need-returns-3
-returns-3 c =
-    let at = c .before .before .before .before .before .before .before in
+returns-2 : tie.Need-returns-2
+returns-2 c =
+    let digits = c .before .before in
+    let at = digits .before .before .before .before .before in
     let m = at .args .m in
     let w = now (at .args .w) in
+    let one : digits .before .sign-length .result ≡ 1 = digits .before .sign-length .ensures ∙ rw (c .before .if2 .taken) in
     with-answer m (number w)
     (c .negative .ensures
-    ∙ ap (negativeOf m) (c .before .read-digits2 .ensures)
+    ∙ ap (negativeOf m) (digits .read-digits .ensures ∙ ap (λ (k : ℕ). capped (natural (drop k w))) one)
     ∙ negative-capped m (at .pre .0) (at .pre .1) (natural (drop 1 w))
-    ∙ sym (ap (readingOf m) (number-minus w (search needs) (c .before .before .if3 .taken))))
+    ∙ sym (ap (readingOf m) (number-minus w (search needs) (c .before .if2 .taken))))
 
-read-digits-requires-3 : tie.Need-read-digits-requires-3
-read-digits-requires-3 c κs = search needs
+positive-requires : tie.Need-positive-requires
+positive-requires c κs = search needs
 
-positive-requires-2 : tie.Need-positive-requires-2
-positive-requires-2 c κs = search needs
-
-returns-4 : tie.Need-returns-4
-returns-4 c =
-    let at = c .before .before .before .before .before .before .before in
+returns-3 : tie.Need-returns-3
+returns-3 c =
+    let digits = c .before .before in
+    let at = digits .before .before .before .before .before in
     let m = at .args .m in
     let w = now (at .args .w) in
+    let sign = digits .before .sign-length .ensures in
     with-answer m (number w)
-    (c .positive2 .ensures
-    ∙ ap (positiveOf m) (c .before .read-digits3 .ensures)
-    ∙ positive-capped m (at .pre .0) (at .pre .1) (natural w)
-    ∙ sym (ap (readingOf m) (number-plain w (search needs) (c .before .before .before .if2 .left) (c .before .before .if3 .left))))
+    (c .positive .ensures
+    ∙ ap (positiveOf m) (digits .read-digits .ensures ∙ ap (λ (k : ℕ). capped (natural (drop k w))) sign)
+    ∙ positive-capped m (at .pre .0) (at .pre .1) (natural (drop (signLength (getD w 0 0)) w))
+    ∙ sym (ap (readingOf m) (number-other w (search needs) (c .before .if2 .left))))
 
 pub read-number-spec : {M : Type 1} → statement M
 read-number-spec =
@@ -74,12 +62,9 @@ read-number-spec =
     (tie.spec
     returns
     shared-slice-read-b
+    sign-length-requires
     read-digits-requires
-    positive-requires
-    returns-2
-    read-digits-requires-2
     negative-requires
-    returns-3
-    read-digits-requires-3
-    positive-requires-2
-    returns-4)
+    returns-2
+    positive-requires
+    returns-3)

@@ -1,28 +1,38 @@
--- `reading::read_rest` meets its contract: the bytes passed are digits, and what is left to test is the rest. Assumes nothing.
-use Prim.Native.Nat.{_-_}
-use mathlib.Core.Bool.{_&&_}
-use mathlib.Core.Path.{_≡_, refl, _∙_}
-use lib.ListN.{length, drop}
+-- `reading::read_rest` meets its contract: a value of 2^30 or more stays one. Assumes nothing.
+use Prim.Native.Nat.{ℕ, _+_, _*_, _-_, _^_, _≤_, min}
+use mathlib.Core.Path.{_≡_, refl, sym, ap, _∙_}
+use native.Mathlib.Omega.{arith}
+use lib.ListN.{length, getD, drop}
 use borrow.Author.Needs.{needs}
+use borrow.Author.Tests.{not-true, not-false}
 use denote.Ref.{now}
-use Rattle.numbers.proofs.ReadingLaws.{allDigits, all-next, all-end, rest-value, rest-none}
+use Rattle.model.specs.Numbers.{digitsFrom}
+use Rattle.numbers.specs.declared.reading.Digits.the-variants.{Value}
+use Rattle.numbers.specs.Reading.{capped}
+use Rattle.numbers.proofs.ReadingLaws.{digits-end, digit, no-digit}
 use Rattle.numbers.proofs.reading.read_rest.Statement.{statement}
 use Rattle.numbers.proofs.reading.read_rest.Tie as tie
 
 abbrev Inv-loop : tie.InvT-loop
-Inv-loop w from all₀ i₀ all i = allDigits (drop from w) ≡ (all && allDigits (drop i w))
+Inv-loop w from i₀ i = (e : ℕ) → 2 ^ 30 ≤ e → ((n : ℕ) × (2 ^ 30 ≤ n) × (digitsFrom e (drop from w) ≡ digitsFrom n (drop i w)))
 
 abbrev μ-loop : tie.MeasureT-loop
-μ-loop w from all₀ i₀ all i = length w - i
+μ-loop w from i₀ i = length w - i
 
 loop-holds : tie.Need-loop-holds Inv-loop μ-loop
-loop-holds c = refl
+loop-holds c e h = (e, h, refl)
 
-shared-slice-read-also-digit : tie.Need-shared-slice-read-also-digit Inv-loop μ-loop
-shared-slice-read-also-digit c = search needs
+shared-slice-read-is-digit : tie.Need-shared-slice-read-is-digit Inv-loop μ-loop
+shared-slice-read-is-digit c = search needs
 
-also-digit-requires : tie.Need-also-digit-requires Inv-loop μ-loop
-also-digit-requires c κs = search needs
+is-digit-requires : tie.Need-is-digit-requires Inv-loop μ-loop
+is-digit-requires c κs = search needs
+
+returns : tie.Need-returns Inv-loop μ-loop
+returns c e h =
+    let at = c .before .before .before in
+    let p = at .before .loop .inv e h in
+    sym (ap capped (p .2 ∙ no-digit _ _ (at .loop-test .taken) (p .0) (sym (c .before .is-digit .ensures) ∙ not-true _ (c .if1 .taken))))
 
 add-i : tie.Need-add-i Inv-loop μ-loop
 add-i c = search needs
@@ -31,24 +41,18 @@ loop-less : tie.Need-loop-less Inv-loop μ-loop
 loop-less c = search needs
 
 loop-again : tie.Need-loop-again Inv-loop μ-loop
-loop-again c =
-    let l = c .before .before in
-    let at = l .before in
-    at .loop .inv ∙ all-next (now (at .before .before .args .w)) (at .loop .i) (l .loop-test .taken) (at .loop .all) _ (c .also-digit .ensures)
-
-returns : tie.Need-returns Inv-loop μ-loop
-returns c e h =
-    let at = c .before .before in
-    let w = now (at .before .before .args .w) in
-    let all = at .loop .inv ∙ all-end w (at .loop .i) (at .loop .all) (c .before .loop-test .left) in
-    rest-value (drop (at .before .before .args .from) w) e h (all ∙ c .if1 .taken)
+loop-again c e h =
+    let at = c .before .before .before in
+    let p = at .before .loop .inv e h in
+    let b = getD (now (at .before .before .before .args .w)) (at .before .loop .i) 0 in
+    let is = sym (c .before .is-digit .ensures) ∙ not-false _ (c .if1 .left) in
+    (p .0 * 10 + (b - 48), omega (arith, p .1), p .2 ∙ digit _ _ (at .loop-test .taken) (p .0) is)
 
 returns-2 : tie.Need-returns-2 Inv-loop μ-loop
 returns-2 c e h =
-    let at = c .before .before in
-    let w = now (at .before .before .args .w) in
-    let all = at .loop .inv ∙ all-end w (at .loop .i) (at .loop .all) (c .before .loop-test .left) in
-    rest-none (drop (at .before .before .args .from) w) e (all ∙ c .if1 .left)
+    let p = c .before .loop .inv e h in
+    let n : 2 ^ 30 ≡ min (2 ^ 30) (p .0) = omega (arith, p .1) in
+    ap Value n ∙ sym (ap capped (p .2 ∙ digits-end _ _ (p .0) (c .loop-test .left)))
 
 pub read-rest-spec : {M : Type 1} → statement M
 read-rest-spec =
@@ -57,10 +61,10 @@ read-rest-spec =
     Inv-loop
     μ-loop
     loop-holds
-    shared-slice-read-also-digit
-    also-digit-requires
+    shared-slice-read-is-digit
+    is-digit-requires
+    returns
     add-i
     loop-less
     loop-again
-    returns
     returns-2)
