@@ -4,6 +4,7 @@ use mathlib.Core.Path.{_≡_, sym, ap, _∙_}
 use mathlib.Core.Bool.{true, false}
 use mathlib.Core.List.{List, [], _∷_, _++_, append-assoc, append-nil}
 use native.Mathlib.Decide.{decLt}
+use native.Mathlib.Nat.{div-div-eq-div-mul}
 use native.Mathlib.Numerals.{add-one}
 use native.Mathlib.Omega.{arith}
 use lib.Dec.{leb·zero}
@@ -71,6 +72,19 @@ write-digit (suc k) n out h l =
     let d = 48 + n % 10 in
     let j : k < length (set out k d) = simp length-set l in
     rw e (ap (lastDigits k (n / 10)) (sym (rw (drop-cons (set out k d) k 0 j, getD-set-same out k d 0 l, drop-set-lt (suc k) out k d (omega arith)))))
+
+-- Two more.
+pub write-pair : (at n : ℕ) (out : List ℕ) → 2 ≤ at → at ≤ length out →
+    lastDigits at n (drop at out)
+    ≡ lastDigits (at - 2) (n / 100) (drop (at - 2) (set (set out (at - 1) (48 + n % 100 % 10)) (at - 2) (48 + n % 100 / 10)))
+write-pair at n out h l =
+    let low : n % 100 % 10 ≡ n % 10 = omega arith in
+    let rest : n / 100 ≡ n / 10 / 10 = sym (div-div-eq-div-mul n 10 10) in
+    let high : n % 100 / 10 ≡ n / 10 % 10 = omega arith in
+    let next : at - 2 ≡ at - 1 - 1 = omega arith in
+    write-digit at n out (omega arith) l
+    ∙ write-digit (at - 1) (n / 10) (set out (at - 1) (48 + n % 10)) (omega arith) (rw length-set (omega arith))
+    ∙ sym (rw (low, high, rest, next))
 
 -- THE SIGN
 -- y is the value z as the machine passes it on, and n its magnitude.

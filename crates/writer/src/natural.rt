@@ -19,17 +19,22 @@ fn count_digits(n: u64) -> usize
     count
 }
 
-// Writes n, of that many digits, at the start of `out`, from the last digit to the first, so that none is moved.
+// Writes n, of that many digits, at the start of `out`, two at a time and from the last to the first, so that none is moved.
 pub fn write_digits(n: u64, count: usize, out: &mut [u8])
     requires { ⌜ (count ≡ length (decimal (pos n))) × (count ≤ length (now out)) ⌝ }
     ensures { λ _. ⌜ now (out .exit) ≡ decimal (pos n) ++ drop count (now (out .entry)) ⌝ }
 {
     let mut left = n;
     let mut at = count;
-    while 0 < at {
-        at -= 1;
-        out[at] = b'0' + (left % 10) as u8;
-        left /= 10;
+    while 2 <= at {
+        let pair = left % 100;
+        out[at - 1] = b'0' + (pair % 10) as u8;
+        at -= 2;
+        out[at] = b'0' + (pair / 10) as u8;
+        left /= 100;
+    }
+    if at == 1 {
+        out[0] = b'0' + (left % 10) as u8;
     }
 }
 

@@ -1,12 +1,11 @@
 -- `natural::write_digits` meets its contract: the digits that are left go in front of what is written. Assumes nothing.
-use Prim.Native.Nat.{ℕ, suc, _+_, _-_, _%_, _≤_}
-use mathlib.Core.Path.{_≡_, refl, sym, _∙_}
-use mathlib.Core.List.{List, []}
+use Prim.Native.Nat.{ℕ, _+_, _-_, _/_, _%_, _≤_}
+use mathlib.Core.Path.{_≡_, refl, sym, ap, _∙_}
+use mathlib.Core.List.{List}
 use native.Mathlib.Omega.{arith}
 use borrow.Author.Needs.{needs}
 use lib.ListN.{length, drop, set, length-set}
-use Rattle.model.proofs.Decimals.{digits-at-most}
-use Rattle.writer.proofs.Spelling.{lastDigits, decimal-digits, write-digit}
+use Rattle.writer.proofs.Spelling.{lastDigits, decimal-digits, write-digit, write-pair}
 use Rattle.writer.proofs.natural.write_digits.Statement.{statement}
 use Rattle.writer.proofs.natural.write_digits.Tie as tie
 
@@ -20,17 +19,26 @@ abbrev μ-loop : tie.MeasureT-loop
 loop-holds : tie.Need-loop-holds Inv-loop μ-loop
 loop-holds c = (c .pre .1, refl, refl)
 
-sub-at : tie.Need-sub-at Inv-loop μ-loop
-sub-at c = search needs
-
 cast-out : tie.Need-cast-out Inv-loop μ-loop
 cast-out c = search needs
 
 add-out : tie.Need-add-out Inv-loop μ-loop
 add-out c = search needs
 
+sub-out : tie.Need-sub-out Inv-loop μ-loop
+sub-out c = search needs
+
 slice-write-out : tie.Need-slice-write-out Inv-loop μ-loop
 slice-write-out c = search needs
+
+cast-out-2 : tie.Need-cast-out-2 Inv-loop μ-loop
+cast-out-2 c = search needs
+
+add-out-2 : tie.Need-add-out-2 Inv-loop μ-loop
+add-out-2 c = search needs
+
+slice-write-out-2 : tie.Need-slice-write-out-2 Inv-loop μ-loop
+slice-write-out-2 c = simp length-set (omega (arith, c .loop-test .taken, c .before .loop .inv .0))
 
 loop-less : tie.Need-loop-less Inv-loop μ-loop
 loop-less c = search needs
@@ -38,8 +46,17 @@ loop-less c = search needs
 loop-again : tie.Need-loop-again Inv-loop μ-loop
 loop-again c =
     let at = c .before .loop in
-    let l : length (set (at .out) (at .at - 1) (48 + at .left % 10)) ≡ length (at .out) = simp length-set in
-    (omega arith, omega arith, at .inv .2 ∙ write-digit (at .at) (at .left) (at .out) (c .loop-test .taken) (at .inv .0))
+    let pair = write-pair (at .at) (at .left) (at .out) (c .loop-test .taken) (at .inv .0) in
+    (simp length-set (omega arith), simp length-set (at .inv .1), at .inv .2 ∙ pair)
+
+cast-out-3 : tie.Need-cast-out-3 Inv-loop μ-loop
+cast-out-3 c = search needs
+
+add-out-3 : tie.Need-add-out-3 Inv-loop μ-loop
+add-out-3 c = search needs
+
+slice-write-out-3 : tie.Need-slice-write-out-3 Inv-loop μ-loop
+slice-write-out-3 c = search needs
 
 same-length : tie.Need-same-length Inv-loop μ-loop
 same-length c = search needs
@@ -48,12 +65,27 @@ finished : (at n : ℕ) (out : List ℕ) → at ≡ 0 → lastDigits at n (drop 
 unfolding lastDigits
 finished at n out e = rw e
 
+-- One digit is left, or none.
+last-one : (at n : ℕ) (out : List ℕ) → at ≡ 1 → at ≤ length out → lastDigits at n (drop at out) ≡ set out 0 (48 + n % 10)
+last-one at n out e l =
+    let first : at - 1 ≡ 0 = omega arith in
+    write-digit at n out (omega arith) l ∙ finished (at - 1) (n / 10) (set out (at - 1) (48 + n % 10)) first ∙ ap (λ (i : ℕ). set out i (48 + n % 10)) first
+
 returns : tie.Need-returns Inv-loop μ-loop
 returns c =
-    let start = c .before .before in
-    let count = start .pre .0 in
-    sym (c .before .loop .inv .2 ∙ finished (c .before .loop .at) (c .before .loop .left) (c .before .loop .out) (omega arith))
-    ∙ rw count (decimal-digits (start .args .n) _)
+    let loop = c .before .before .loop in
+    let start = c .before .before .before in
+    sym (loop .inv .2 ∙ last-one (loop .at) (loop .left) (loop .out) (c .if1 .taken) (loop .inv .0)) ∙ rw (start .pre .0) (decimal-digits (start .args .n) _)
+
+same-length-2 : tie.Need-same-length-2 Inv-loop μ-loop
+same-length-2 c = search needs
+
+returns-2 : tie.Need-returns-2 Inv-loop μ-loop
+returns-2 c =
+    let loop = c .before .before .loop in
+    let start = c .before .before .before in
+    sym (loop .inv .2 ∙ finished (loop .at) (loop .left) (loop .out) (omega (arith, c .if1 .left, c .before .loop-test .left)))
+    ∙ rw (start .pre .0) (decimal-digits (start .args .n) _)
 
 pub write-digits-spec : {M : Type 1} → statement M
 write-digits-spec =
@@ -62,11 +94,19 @@ write-digits-spec =
     Inv-loop
     μ-loop
     loop-holds
-    sub-at
     cast-out
     add-out
+    sub-out
     slice-write-out
+    cast-out-2
+    add-out-2
+    slice-write-out-2
     loop-less
     loop-again
+    cast-out-3
+    add-out-3
+    slice-write-out-3
     same-length
-    returns)
+    returns
+    same-length-2
+    returns-2)
