@@ -14,7 +14,7 @@ use Rattle.model.specs.declared.LoadReply.{LoadReply}
 use Rattle.model.specs.declared.LoadReply.the-variants.{Accepted}
 use Rattle.model.specs.declared.LoadReply.the-variants as load
 use Rattle.model.specs.Parameters.{refusalOf, parameterChecks}
-use Rattle.model.specs.Numbers.{bytes, digitsFrom}
+use Rattle.model.specs.Numbers.{bytes, digitsFrom, digitsOf}
 use Rattle.model.specs.Arithmetic.{checked, divide, remainder, negation, logic, bitsOf, signedOf, bitwise, shiftLeft, shiftRight, shiftRightSigned}
 use Rattle.model.specs.Instructions.{rows, rowOf, directs, costOf}
 use Rattle.model.specs.Load.{linesFrom, wordsFrom, sameWord, lookupFrom, names, specialOf, plain, argument, allows, isWithin, argumentsFrom, lineCell, linesReply, linesWords, textReply, imageOf, loadChecks, loadReply}
@@ -22,7 +22,10 @@ use Rattle.model.specs.Images.{wordFits, wordsFit, cellFits, allZero, ce
 use Rattle.model.specs.Machine.{look, lookAt}
 use Rattle.model.specs.Grants.{Call, handBack, refuse, advance, loop, run, accept, grant}
 use Rattle.model.specs.Step.{registerValue, valueOf, store, jumpTo, push, pop, blanksOf, tokenOf, input, execute, stateStatus, stepCost, stepValues, step}
-use Rattle.model.specs.Calls.{Granted, granted, started, startChecks, recordFits, grantChecks, grantRefusal}
+use Rattle.model.specs.Calls.{Granted, granted, started, startChecks, recordFits, grantChecks, grantRefusal, endingWord}
+use Rattle.model.specs.Lines.{valueLines}
+use Rattle.model.specs.Settings.{fieldsFrom, setting, allSettings}
+use Rattle.model.specs.Program.{grantLines, printed}
 use Rattle.model.specs.Demand.{Held, heldAfterStart, gives, leaves, joinedOutputs}
 
 abbrev p : Parameters
@@ -127,10 +130,11 @@ marks =
     ∷ grants (spends "SET R0 13\nSET R1 -10\nDIV R0 R1 R1\nOUT R1" (1_000_000_000 ∷ [])) ((2 ∷ 1 ∷ 103 ∷ []) ∷ [])
     ∷ grants (spends "SET R0 13\nSET R1 -10\nDIV R0 R1 R1\nOUT R1" (52 ∷ 50 ∷ 1 ∷ []))
     ((3 ∷ 0 ∷ 52 ∷ []) ∷ (3 ∷ 0 ∷ 0 ∷ []) ∷ (2 ∷ 1 ∷ 51 ∷ []) ∷ [])
+    ∷ words (printed (bytes "8 2 4 2 6") (bytes "SET R0 13\nSET R1 -10\nDIV R0 R1 R1\nOUT R1") []) (bytes "-1\nENDED 0 4 103\n")
     ∷ []
 
 pub marked-runs : map computed marks ≡ map said marks
-unfolding firstCell reply loads calls zeros from answers spends prints left ends registers stack computed marks said parameterChecks digitsFrom checked divide remainder negation logic bitsOf signedOf bitwise shiftLeft shiftRight shiftRightSigned rowOf directs costOf linesFrom wordsFrom sameWord lookupFrom names specialOf plain argument allows isWithin argumentsFrom lineCell linesReply linesWords textReply imageOf loadChecks loadReply wordFits wordsFit cellFits allZero cellsFit look lookAt handBack refuse advance loop run accept grant registerValue valueOf store jumpTo push pop blanksOf tokenOf input execute stateStatus stepCost stepValues step granted started startChecks recordFits grantChecks grantRefusal gives leaves joinedOutputs
+unfolding firstCell reply loads calls zeros from answers spends prints left ends registers stack computed marks said parameterChecks digitsFrom checked divide remainder negation logic bitsOf signedOf bitwise shiftLeft shiftRight shiftRightSigned rowOf directs costOf linesFrom wordsFrom sameWord lookupFrom names specialOf plain argument allows isWithin argumentsFrom lineCell linesReply linesWords textReply imageOf loadChecks loadReply wordFits wordsFit cellFits allZero cellsFit look lookAt handBack refuse advance loop run accept grant registerValue valueOf store jumpTo push pop blanksOf tokenOf input execute stateStatus stepCost stepValues step granted started startChecks recordFits grantChecks grantRefusal gives leaves joinedOutputs digitsOf endingWord valueLines fieldsFrom setting allSettings grantLines printed
 marked-runs = refl
 
 -- Points that the papers leave open, as docs/DECISIONS.md decides them.

@@ -10,3 +10,6 @@ pub mod Grants
 pub mod Step
 pub mod Calls
 pub mod Demand
+pub mod Settings
+pub mod Lines
+pub mod Program

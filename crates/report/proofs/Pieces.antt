@@ -18,7 +18,8 @@ use Rattle.model.specs.declared.DecimalReply.{DecimalReply}
 use Rattle.model.specs.declared.Ending.{Ending}
 use Rattle.model.specs.declared.Ending.the-variants.{Failed, Ended, Paused, OutputFull}
 use Rattle.writer.specs.Decimal.{written}
-use Rattle.report.specs.Lines.{field, valueLine, valueLines, Put}
+use Rattle.model.specs.Lines.{field, valueLine, valueLines}
+use Rattle.report.specs.Puts.{Put}
 
 -- One piece behind another.
 pub sets-append : (s t out : List ℕ) (at : ℕ) → sets out at (s ++ t) ≡ sets (sets out at s) (at + length s) t

@@ -2,7 +2,8 @@
 ghost use Prim.Native.Nat.{_+_, _*_, _≤_};
 ghost use lib.ListN.{length};
 ghost use Rattle.model.specs.Calls.{endingWord};
-ghost use Rattle.report.specs.Lines.{field, valueLine, valueLines, endingLine, refusalLine, Put};
+ghost use Rattle.model.specs.Lines.{field, valueLine, valueLines, endingLine, refusalLine};
+ghost use Rattle.report.specs.Puts.{Put};
 use model::Ending;
 use writer::decimal::write_decimal;
 use writer::natural::write_natural;

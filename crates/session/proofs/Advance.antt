@@ -27,7 +27,8 @@ use Rattle.model.specs.declared.Ending.the-variants.{Failed, Ended, Paused, Out
 use Rattle.model.specs.declared.Outcome.{Outcome}
 use Rattle.model.specs.declared.Outcome.the-variants.{Refused, Stopped}
 use Rattle.model.specs.declared.Record.{Record}
-use Rattle.session.specs.Sessions.{isFull, Progress}
+use Rattle.model.specs.Program.{isFull}
+use Rattle.session.specs.Sessions.{Progress}
 
 -- No step writes more than 4,096 values.
 few : (e : Environment) → Fit (e .parameters) → (s : State) → Sound e s → length (stepValues e s) ≤ 4096

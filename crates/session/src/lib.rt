@@ -1,10 +1,10 @@
 // What takrun does with the contents of its files: load and start, then a grant at a time, with the lines that it prints.
-ghost use mathlib.Core.Bool.{true};
 ghost use mathlib.Core.Path.{_≡_};
-ghost use Prim.Native.Nat.{_+_, _*_, _≤_};
+ghost use Prim.Native.Nat.{_+_, _≤_};
 ghost use lib.ListN.{length};
-ghost use Rattle.report.specs.Lines.{Put};
-ghost use Rattle.session.specs.Sessions.{OpenIs, isFull, lastLines, ReportIs, Progress};
+ghost use Rattle.model.specs.Program.{isFull, lastLines};
+ghost use Rattle.report.specs.Puts.{Put};
+ghost use Rattle.session.specs.Sessions.{Sizes, BeginIs, OpenIs, ReportIs};
 use loader::load;
 use machine::grant;
 use machine::start;
@@ -18,17 +18,42 @@ use report::put_ending;
 use report::put_refusal;
 use report::put_values;
 
-// The record of an accepted start; or the number and the line's index of the call that was refused.
-pub enum Opened {
-    Ready(Record),
-    Refused(u32, usize),
-}
-
-// After a grant: the bytes of its lines, whether the output was full, so that another grant follows, and the record.
+// After a call: the bytes of its lines, and whether a grant follows, of which record and cycles.
 pub struct Report {
     pub count: usize,
     pub more: bool,
     pub rec: Record,
+    pub cycles: u64,
+}
+
+// Start; the first grant is of 10^9 cycles.
+fn begin(
+    p: Parameters,
+    image: &[u32],
+    registers: &mut [i32],
+    cells: &mut [i32],
+    lines: &mut [u8],
+) -> Report
+    requires { ⌜ 80 ≤ length (now lines) ⌝ }
+    ensures { λ r. ⌜ BeginIs p (now (image .entry)) (now (registers .entry)) (now (cells .entry)) (now (lines .entry)) r (now (registers .exit)) (now (cells .exit)) (now (lines .exit)) ⌝ }
+    ensures within { λ r. ⌜ r .count ≤ length (now (lines .exit)) ⌝ }
+{
+    let started = start(p, image, registers, cells);
+    let rec = started.rec;
+    if started.refusal != 0 {
+        return Report {
+            count: put_refusal(started.refusal, 0, lines, 0),
+            more: false,
+            rec,
+            cycles: Record::MAX_GRANT,
+        };
+    }
+    Report {
+        count: 0,
+        more: true,
+        rec,
+        cycles: Record::MAX_GRANT,
+    }
 }
 
 // Load, then start.
@@ -38,28 +63,30 @@ pub fn open(
     image: &mut [u32],
     registers: &mut [i32],
     cells: &mut [i32],
-) -> Opened
-    ensures { λ r. ⌜ OpenIs p (now (text .entry)) (now (image .entry)) (now (registers .entry)) (now (cells .entry)) r (now (image .exit)) (now (registers .exit)) (now (cells .exit)) ⌝ }
+    lines: &mut [u8],
+) -> Report
+    requires { ⌜ Sizes p (now image) (now registers) (now cells) ⌝ }
+    requires { ⌜ 80 ≤ length (now lines) ⌝ }
+    ensures { λ r. ⌜ OpenIs p (now (text .entry)) (now (image .entry)) (now (registers .entry)) (now (cells .entry)) (now (lines .entry)) r (now (image .exit)) (now (registers .exit)) (now (cells .exit)) (now (lines .exit)) ⌝ }
+    ensures within { λ r. ⌜ r .count ≤ length (now (lines .exit)) ⌝ }
 {
     let loaded = load(p, text, image);
     match loaded {
-        LoadReply::Refused(number, index) => Opened::Refused(number, index),
-        LoadReply::Accepted(_) => {
-            let started = start(p, image, registers, cells);
-            if started.refusal != 0 {
-                return Opened::Refused(started.refusal, 0);
-            }
-            let rec = started.rec;
-            Opened::Ready(rec)
-        }
+        LoadReply::Refused(number, index) => Report {
+            count: put_refusal(number, index, lines, 0),
+            more: false,
+            rec: Record::fresh(p),
+            cycles: Record::MAX_GRANT,
+        },
+        LoadReply::Accepted(_) => begin(p, image, registers, cells, lines),
     }
 }
 
-// Behind the values' lines the last line, unless the output was full.
+// Behind the values' lines the last line, unless the output was full. What follows a full output is a grant of 0.
 fn finish(reply: GrantReply, lines: &mut [u8], at: usize) -> Report
     requires { ⌜ at + 80 ≤ length (now lines) ⌝ }
     ensures { λ r. ⌜ Put (now (lines .entry)) at (lastLines (reply .outcome) (reply .rec)) (now (lines .exit)) (r .count) ⌝ }
-    ensures { λ r. ⌜ (r .more ≡ isFull (reply .outcome)) × (r .rec ≡ reply .rec) ⌝ }
+    ensures { λ r. ⌜ (r .more ≡ isFull (reply .outcome)) × (r .rec ≡ reply .rec) × (r .cycles ≡ 0) ⌝ }
 {
     let rec = reply.rec;
     let outcome = reply.outcome;
@@ -68,6 +95,7 @@ fn finish(reply: GrantReply, lines: &mut [u8], at: usize) -> Report
             count: put_refusal(number, 0, lines, at),
             more: false,
             rec,
+            cycles: 0,
         },
         Outcome::Stopped(ending) => {
             if let Ending::OutputFull = ending {
@@ -75,12 +103,14 @@ fn finish(reply: GrantReply, lines: &mut [u8], at: usize) -> Report
                     count: at,
                     more: true,
                     rec,
+                    cycles: 0,
                 };
             }
             Report {
                 count: put_ending(ending, rec.ircr, rec.iar, rec.spent, lines, at),
                 more: false,
                 rec,
+                cycles: 0,
             }
         }
     }
@@ -97,10 +127,9 @@ pub fn run_grant(
     values: &mut [i32],
     lines: &mut [u8],
 ) -> Report
-    requires { ⌜ (4096 ≤ length (now values)) × (length (now values) * 12 + 80 ≤ length (now lines)) ⌝ }
+    requires { ⌜ (length (now values) ≡ 4096) × (49232 ≤ length (now lines)) ⌝ }
     ensures { λ r. ⌜ ReportIs (now (image .entry)) (now (input .entry)) rec cycles (now (registers .entry)) (now (cells .entry)) (now (values .entry)) (now (lines .entry)) r (now (registers .exit)) (now (cells .exit)) (now (values .exit)) (now (lines .exit)) ⌝ }
     ensures within { λ r. ⌜ r .count ≤ length (now (lines .exit)) ⌝ }
-    ensures progress { λ r. ⌜ (r .more ≡ true → Progress rec cycles (r .rec)) ⌝ }
 {
     let reply = grant(rec, cycles, image, input, registers, cells, values);
     let count = reply.values;

@@ -16,7 +16,7 @@ use Rattle.model.specs.Numbers.{isBlank, isDigit, digitsFrom, mapped}
 use Rattle.model.specs.declared.Parameters.{Parameters}
 use Rattle.model.proofs.Fits.{and-both}
 use Rattle.settings.specs.declared.Scan.{Scan}
-use Rattle.settings.specs.Settings.{fieldsFrom, fields, setting, allSettings, zeros, five, settings}
+use Rattle.model.specs.Settings.{fieldsFrom, fields, setting, allSettings, zeros, five, settings}
 use Rattle.settings.specs.Scans.{unread, shifted, counted, ended, extends, extended, scanned, scannedAll, scanOf, settled}
 use Rattle.settings.proofs.WordLaws.{digit-behind, settings-cons, fields-blank, fields-byte, Bad, bad-long, bad-other, bad-fields}
 use Rattle.settings.proofs.ScanLaws.{Void, room, ended-none, ended-word, ended-void, scanned-blank, scanned-digit, scanned-bad, scanned-void}
@@ -58,7 +58,7 @@ finish-counted p k o = go (decLt k 6)
     go (no g) = rw (le-ltb k 6 (omega arith)) (finish-many p 6 o (omega arith) ∙ sym (finish-many p (k + 1) o (omega arith)))
 
 -- THE REST OF A FILE
-settled-void : (s : List ℕ) (a : Scan) → Void a → settled (scannedAll a s) ≡ zeros
+pub settled-void : (s : List ℕ) (a : Scan) → Void a → settled (scannedAll a s) ≡ zeros
 unfolding settled
 settled-void [] a h = simp (settled, ended-void a h)
 settled-void (b ∷ s) a h = settled-void s (scanned a b) (scanned-void a h b)

@@ -5,7 +5,7 @@ use mathlib.Core.Path.{_≡_, refl}
 use mathlib.Core.List.{List, [], _∷_, map}
 use Rattle.model.specs.declared.Parameters.{Parameters}
 use Rattle.model.specs.Numbers.{bytes, digitsFrom}
-use Rattle.settings.specs.Settings.{fieldsFrom, setting, allSettings, zeros, settings}
+use Rattle.model.specs.Settings.{fieldsFrom, setting, allSettings, zeros, settings}
 
 pub record Example : Type 0 where
   pub file : String

@@ -12,7 +12,7 @@ use Rattle.model.specs.Numbers.{isBlank, isDigit}
 use Rattle.model.proofs.Fits.{both, by-cond, is-between}
 use Rattle.settings.specs.declared.Scan.{Scan}
 use Rattle.settings.specs.Scans.{shifted, counted, ended, extends, extended, voided, scanned, scannedAll, settled}
-use Rattle.settings.specs.Settings.{zeros}
+use Rattle.model.specs.Settings.{zeros}
 
 module _ (a : Scan) where
   pub ended-none : a .digits ≡ 0 → ended a ≡ a

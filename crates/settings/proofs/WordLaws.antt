@@ -10,7 +10,7 @@ use lib.ListN.{length, length-append}
 use borrow.Author.Tests.{lt-leb}
 use Rattle.model.specs.Load.{keep}
 use Rattle.model.specs.Numbers.{isBlank, isDigit, digitsFrom, natural, mapped}
-use Rattle.settings.specs.Settings.{fieldsFrom, setting, allSettings}
+use Rattle.model.specs.Settings.{fieldsFrom, setting, allSettings}
 
 -- DIGITS
 -- The value of the digits t behind others, of value o.

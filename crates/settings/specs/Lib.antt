@@ -1,2 +1,3 @@
-pub mod Settings
 pub mod Scans
+pub mod Transfers
+pub mod Intakes

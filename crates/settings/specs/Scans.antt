@@ -5,7 +5,7 @@ use mathlib.Core.List.{List, foldl}
 use lib.Dec.{eqb, ltb}
 use Rattle.model.specs.Numbers.{isBlank, isDigit}
 use Rattle.model.specs.declared.Parameters.{Parameters}
-use Rattle.settings.specs.Settings.{zeros}
+use Rattle.model.specs.Settings.{zeros}
 use Rattle.settings.specs.declared.Scan.{Scan}
 
 -- before the first byte

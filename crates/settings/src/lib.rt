@@ -1,8 +1,16 @@
-// The five parameters of `tak.par`, whose bytes come in chunks.
+// The five parameters of `tak.par`, whose bytes come in chunks; and what calls of read and write come to.
+mod intakes;
+mod transfers;
+
+pub use intakes::Intake;
+pub use intakes::take_piece;
+pub use transfers::Transfer;
+pub use transfers::after_call;
+pub use transfers::contents;
 ghost use Prim.Native.Nat.{ℕ};
 ghost use mathlib.Core.Path.{_≡_};
 ghost use mathlib.Core.List.{List, [], _++_};
-ghost use Rattle.settings.specs.Settings.{settings};
+ghost use Rattle.model.specs.Settings.{settings};
 ghost use Rattle.settings.specs.Scans.{ended, extends, scanned, scannedAll, scanOf, settled};
 use model::Parameters;
 use text::bytes::is_blank;
@@ -18,6 +26,8 @@ pub struct Scan {
 }
 
 impl Scan {
+    const WORDS: u32 = 5;
+
     const VOID: u32 = 6;
 
     // Before the first byte.
@@ -117,7 +127,7 @@ pub fn settle(scan: Scan) -> Parameters
     ensures meaning { λ r. ⌜ ((file : List ℕ) → scan ≡ scanOf file → r ≡ settings file) ⌝ }
 {
     let whole = end_word(scan);
-    if whole.count == 5 {
+    if whole.count == Scan::WORDS {
         return whole.last;
     }
     Parameters {

@@ -1,114 +1,79 @@
 // takrun: runs the program of the current folder. It reads `tak.par`, `tak.tcl` and `tak.in`; a file that is missing or cannot be read counts as empty.
-ghost use Prim.Native.Nat.{_+_, _*_, _≤_};
+ghost use mathlib.Core.Path.{_≡_};
+ghost use Prim.Native.Nat.{_≤_, _<_};
 ghost use lib.ListN.{length};
+ghost use Rattle.session.specs.Sessions.{Sizes, sizeOf};
+use libc::EINTR;
 use libc::STDOUT_FILENO;
 use model::Parameters;
 use model::Record;
-use report::put_refusal;
-use session::Opened;
+use session::Report;
 use session::open;
 use session::run_grant;
+use settings::Intake;
 use settings::Scan;
-use settings::scan_chunk;
+use settings::Transfer;
+use settings::after_call;
+use settings::contents;
 use settings::settle;
+use settings::take_piece;
 
 // The greatest image, registers and data; the values of one grant, and the bytes of their lines with a last one.
-const MAX_WORDS: usize = 16384;
+const MAX_WORDS: usize = 4 * Record::MAX_INSTRUCTIONS as usize;
 
-const MAX_REGISTERS: usize = 256;
+const MAX_REGISTERS: usize = Record::MAX_REGISTERS as usize;
 
-const MAX_CELLS: usize = 4096;
+const MAX_CELLS: usize = Record::MAX_CELLS as usize;
 
 const MAX_VALUES: usize = 4096;
 
-const MAX_LINES: usize = 49232;
+const MAX_LINES: usize = 12 * MAX_VALUES + 80;
 
-// One byte more than a text or an input may have.
-const MAX_BYTES: usize = 65537;
+// One byte more than a text or an input may have. One buffer serves all three files, one after the other.
+const MAX_BYTES: usize = Record::MAX_TEXT + 1;
 
-// What is known of `tak.par`, and whether there is more of it.
-struct Chunk {
-    scan: Scan,
-    more: bool,
+// A signal interrupted the call just made, if it failed.
+fn interrupted() -> bool {
+    os::errno() == EINTR
 }
 
-// One read. After one that fails the file counts as empty.
-fn read_chunk(fd: i32, scan: Scan) -> Chunk {
-    let mut bytes = io::large_buffer();
-    let got = libc::read(fd, &mut bytes);
-    if got < 0 {
-        return Chunk {
-            scan: Scan::unread(),
-            more: false,
-        };
+// The scan of `tak.par`, read piece by piece into the buffer.
+fn read_pieces(fd: i32, bytes: &mut [u8]) -> Scan
+    requires { ⌜ 0 < length (now bytes) ⌝ }
+{
+    let mut intake = Intake::untaken();
+    while 0 < intake.calls {
+        let got = libc::read(fd, bytes);
+        let piece = Transfer::begun(bytes.len());
+        let read = after_call(piece, got, interrupted(), bytes.len());
+        intake = take_piece(intake, read, bytes);
     }
-    if got == 0 {
-        return Chunk { scan, more: false };
-    }
-    let n = io::count(got, &bytes);
-    Chunk {
-        scan: scan_chunk(scan, &bytes[..n]),
-        more: true,
-    }
+    intake.scan
 }
 
-// Nothing says that a file ends, and a proved loop has to: no run uses these turns up.
-fn read_chunks(fd: i32) -> Scan {
-    let mut scan = Scan::unread();
-    let mut turns = u64::MAX;
-    while 0 < turns {
-        let chunk = read_chunk(fd, scan);
-        scan = chunk.scan;
-        if !chunk.more {
-            return scan;
-        }
-        turns -= 1;
-    }
-    scan
-}
-
-fn read_parameters() -> Parameters {
+fn read_parameters(bytes: &mut [u8]) -> Parameters
+    requires { ⌜ 0 < length (now bytes) ⌝ }
+{
     let fd = os::open_read(b"tak.par");
     if fd < 0 {
         return settle(Scan::unread());
     }
-    let scan = read_chunks(fd);
+    let scan = read_pieces(fd, bytes);
     libc::close(fd);
     settle(scan)
 }
 
-// What one read gave: how many bytes, none at the end of the file; and whether it failed.
-struct Piece {
-    count: usize,
-    failed: bool,
-}
-
-fn read_piece(fd: i32, bytes: &mut [u8]) -> Piece
-    ensures { λ r. ⌜ r .count ≤ length (now (bytes .entry)) ⌝ }
-{
-    let got = libc::read(fd, bytes);
-    Piece {
-        count: io::count(got, bytes),
-        failed: got < 0,
-    }
-}
-
-// Reads until the buffer is full or the file ends. After a read that fails the file counts as empty.
+// Reads until the buffer is full or the file ends.
 fn read_all(fd: i32, bytes: &mut [u8]) -> usize
     ensures { λ r. ⌜ r ≤ length (now (bytes .entry)) ⌝ }
 {
-    let mut count = 0;
-    while count < bytes.len() {
-        let piece = read_piece(fd, &mut bytes[count..]);
-        if piece.failed {
-            return 0;
-        }
-        if piece.count == 0 {
-            return count;
-        }
-        count += piece.count;
+    let mut t = Transfer::begun(bytes.len());
+    while 0 < t.calls {
+        let from = t.count;
+        let got = libc::read(fd, &mut bytes[from..]);
+        t = after_call(t, got, interrupted(), bytes.len());
     }
-    count
+    contents(t)
 }
 
 fn read_file(path: &[u8], bytes: &mut [u8]) -> usize
@@ -123,15 +88,20 @@ fn read_file(path: &[u8], bytes: &mut [u8]) -> usize
     count
 }
 
-fn print_refusal(number: u32, index: usize) {
-    let mut line = [0u8; 80];
-    let end = put_refusal(number, index, &mut line, 0);
-    io::write_all(STDOUT_FILENO, &line[..end]);
+// Writes all of the bytes, or says that it could not.
+fn print(bytes: &[u8]) -> bool {
+    let mut t = Transfer::begun(bytes.len());
+    while 0 < t.calls {
+        let from = t.count;
+        let put = libc::write(STDOUT_FILENO, &bytes[from..]);
+        t = after_call(t, put, interrupted(), bytes.len());
+    }
+    t.count == bytes.len()
 }
 
-// 10^9 cycles once, then 0 after each full output.
+// Grants as long as more follow. After a write that failed nothing more is written: the last line is missing, so that the loss can be seen.
 fn run_grants(
-    start: Record,
+    first: Report,
     image: &[u32],
     input: &[u8],
     registers: &mut [i32],
@@ -139,60 +109,93 @@ fn run_grants(
     values: &mut [i32],
     lines: &mut [u8],
 )
-    requires { ⌜ (4096 ≤ length (now values)) × (length (now values) * 12 + 80 ≤ length (now lines)) ⌝ }
+    requires { ⌜ (length (now values) ≡ 4096) × (49232 ≤ length (now lines)) ⌝ }
 {
-    let mut rec = start;
-    let mut cycles = Record::MAX_GRANT;
-    loop {
-        let report = run_grant(rec, cycles, image, input, registers, cells, values, lines);
+    let mut report = first;
+    while report.more {
+        let rec = report.rec;
+        report = run_grant(
+            rec,
+            report.cycles,
+            image,
+            input,
+            registers,
+            cells,
+            values,
+            lines,
+        );
         let count = report.count;
-        io::write_all(STDOUT_FILENO, &lines[..count]);
-        if !report.more {
+        if !print(&lines[..count]) {
             return;
         }
-        rec = report.rec;
-        cycles = 0;
     }
 }
 
-fn run_record(
-    start: Record,
-    image: &[u32],
-    input: &[u8],
+// The text, loaded and started.
+fn load_text(
+    p: Parameters,
+    bytes: &mut [u8],
+    image: &mut [u32],
     registers: &mut [i32],
     cells: &mut [i32],
-) {
-    let mut values = [0i32; MAX_VALUES];
-    let mut lines = [0u8; MAX_LINES];
+    lines: &mut [u8],
+) -> Report
+    requires { ⌜ Sizes p (now image) (now registers) (now cells) ⌝ }
+    requires { ⌜ 80 ≤ length (now lines) ⌝ }
+    ensures { λ r. ⌜ r .count ≤ length (now (lines .exit)) ⌝ }
+{
+    let count = read_file(b"tak.tcl", bytes);
+    open(p, &bytes[..count], image, registers, cells, lines)
+}
+
+// The input takes the text's place in the buffer.
+fn run_input(
+    first: Report,
+    bytes: &mut [u8],
+    image: &[u32],
+    registers: &mut [i32],
+    cells: &mut [i32],
+    values: &mut [i32],
+    lines: &mut [u8],
+)
+    requires { ⌜ (length (now values) ≡ 4096) × (49232 ≤ length (now lines)) ⌝ }
+{
+    let count = read_file(b"tak.in", bytes);
     run_grants(
-        start,
+        first,
         image,
-        input,
+        &bytes[..count],
         registers,
         cells,
-        &mut values,
-        &mut lines,
+        values,
+        lines,
     )
 }
 
 fn run(
     p: Parameters,
-    text: &[u8],
-    input: &[u8],
+    bytes: &mut [u8],
     image: &mut [u32],
     registers: &mut [i32],
     cells: &mut [i32],
-) {
-    let opened = open(p, text, image, registers, cells);
-    match opened {
-        Opened::Refused(number, index) => print_refusal(number, index),
-        Opened::Ready(rec) => run_record(rec, image, input, registers, cells),
+    values: &mut [i32],
+    lines: &mut [u8],
+)
+    requires { ⌜ Sizes p (now image) (now registers) (now cells) ⌝ }
+    requires { ⌜ (length (now values) ≡ 4096) × (49232 ≤ length (now lines)) ⌝ }
+{
+    let report = load_text(p, bytes, image, registers, cells, lines);
+    let count = report.count;
+    let more = report.more;
+    if print(&lines[..count]) && more {
+        run_input(report, bytes, image, registers, cells, values, lines)
     }
 }
 
 // The length of a slice of that many; load refuses what is over the limit before it looks at a slice.
-fn within(n: u32, most: usize) -> usize
-    ensures { λ r. ⌜ r ≤ most ⌝ }
+fn size_of(n: u32, most: usize) -> usize
+    ensures { λ r. ⌜ r ≡ sizeOf n most ⌝ }
+    ensures within { λ r. ⌜ r ≤ most ⌝ }
 {
     let n = n as usize;
     if n <= most { n } else { 0 }
@@ -201,42 +204,45 @@ fn within(n: u32, most: usize) -> usize
 // The slices of the parameters' lengths.
 fn run_slices(
     p: Parameters,
-    text: &[u8],
-    input: &[u8],
+    bytes: &mut [u8],
     image: &mut [u32],
     registers: &mut [i32],
     cells: &mut [i32],
+    values: &mut [i32],
+    lines: &mut [u8],
 )
     requires { ⌜ (16384 ≤ length (now image)) × (256 ≤ length (now registers)) × (4096 ≤ length (now cells)) ⌝ }
+    requires { ⌜ (length (now values) ≡ 4096) × (49232 ≤ length (now lines)) ⌝ }
 {
-    let words = 4 * within(p.t, MAX_WORDS / 4);
-    let n = within(p.n, MAX_REGISTERS);
-    let s = within(p.s, MAX_CELLS);
+    let words = 4 * size_of(p.t, MAX_WORDS / 4);
+    let n = size_of(p.n, MAX_REGISTERS);
+    let s = size_of(p.s, MAX_CELLS);
     run(
         p,
-        text,
-        input,
+        bytes,
         &mut image[..words],
         &mut registers[..n],
         &mut cells[..s],
+        values,
+        lines,
     )
 }
 
 fn main() {
-    let p = read_parameters();
-    let mut text = [0u8; MAX_BYTES];
-    let text_count = read_file(b"tak.tcl", &mut text);
-    let mut input = [0u8; MAX_BYTES];
-    let input_count = read_file(b"tak.in", &mut input);
+    let mut bytes = [0u8; MAX_BYTES];
+    let p = read_parameters(&mut bytes);
     let mut image = [0u32; MAX_WORDS];
     let mut registers = [0i32; MAX_REGISTERS];
     let mut cells = [0i32; MAX_CELLS];
+    let mut values = [0i32; MAX_VALUES];
+    let mut lines = [0u8; MAX_LINES];
     run_slices(
         p,
-        &text[..text_count],
-        &input[..input_count],
+        &mut bytes,
         &mut image,
         &mut registers,
         &mut cells,
+        &mut values,
+        &mut lines,
     )
 }

@@ -10,7 +10,7 @@ use borrow.Rule.Slice.PartAt.{part-to-end}
 use borrow.Rule.Slice.PartMut.{putMid}
 use Rattle.model.proofs.Decimals.{decimal-length}
 use Rattle.model.specs.Numbers.{decimal}
-use Rattle.report.specs.Lines.{Put}
+use Rattle.report.specs.Puts.{Put}
 use Rattle.report.proofs.Pieces.{sets-rest, spelled-fits, put-then, put-length}
 use Rattle.report.proofs.put_value.Statement.{statement}
 use Rattle.report.proofs.put_value.Tie as tie

@@ -9,7 +9,8 @@ use mir.Facts.{toZ-ofZ}
 use mir.Syntax.{w32}
 use mir.Val.{SFits}
 use denote.Ref.{now}
-use Rattle.report.specs.Lines.{valueLines, Put}
+use Rattle.model.specs.Lines.{valueLines}
+use Rattle.report.specs.Puts.{Put}
 use Rattle.report.proofs.Pieces.{value-line-length, lines-next, put-then, put-length}
 use Rattle.report.proofs.put_values.Statement.{statement}
 use Rattle.report.proofs.put_values.Tie as tie

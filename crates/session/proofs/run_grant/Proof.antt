@@ -1,11 +1,10 @@
 -- `run_grant` meets its contract. Assumes nothing.
-use mathlib.Core.Path.{sym, _∙_}
+use mathlib.Core.Path.{sym}
 use native.Mathlib.Omega.{arith}
 use lib.Seq.{length-take-le}
 use borrow.Author.Needs.{needs}
 use denote.Ref.{now}
 use Rattle.report.proofs.Pieces.{put-length, put-then}
-use Rattle.session.proofs.Advance.{full-progress}
 use Rattle.session.proofs.Lines.{written-fits, reported}
 use Rattle.session.proofs.run_grant.Statement.{statement}
 use Rattle.session.proofs.run_grant.Tie as tie
@@ -53,18 +52,12 @@ returns c =
     let last = c .before .before .finish .ensures in
     let put = c .before .before .before .before .before .before in
     let done = put .before .before .before .before .before .before in
-    let a = done .before .before .before .before .before .before .before .args in
-    let is =
-    reported (now (a .image)) (now (a .input)) (a .rec) (a .cycles) (now (a .registers)) (now (a .cells)) (now (a .values)) (now (a .lines))
-    (done .grant .ensures) (put .put-values .ensures .0) (last .0) (last .1)
-    in
-    let all = put-then (put .put-values .ensures .0) (last .0) in
-    let room = done .before .before .before .before .before .before .before .pre .0 in (
-      is,
-      (
-        omega (arith, all .room, all .end, put-length all),
-        λ m. rw (is .rec) (full-progress (now (a .image)) (now (a .input)) (a .rec) (now (a .registers)) (now (a .cells)) (record { cycles = a .cycles; slice = now (a .values) }) room (sym (is .more) ∙ m)),
-      ),
+    let start = done .before .before .before .before .before .before .before in
+    let a = start .args in
+    let all = put-then (put .put-values .ensures .0) (last .0) in (
+      reported (now (a .image)) (now (a .input)) (a .rec) (a .cycles) (now (a .registers)) (now (a .cells)) (now (a .values)) (now (a .lines))
+          (done .grant .ensures) (put .put-values .ensures .0) (last .0) (last .1) (start .pre .0) (put .before .before .before .values .given),
+      omega (arith, all .room, all .end, put-length all),
     )
 
 pub run-grant-spec : {M : Type 1} → statement M

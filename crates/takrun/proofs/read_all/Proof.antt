@@ -1,47 +1,42 @@
--- `read_all` meets its contract. Assumes nothing.
-use Prim.Native.Nat.{_-_, _≤_}
-use mathlib.Core.Path.{_≡_}
+-- `read_all` meets its contract; each call leaves fewer to follow. Assumes nothing.
+use Prim.Native.Nat.{_≤_}
+use mathlib.Core.Path.{_≡_, refl}
 use native.Mathlib.Omega.{arith}
 use lib.ListN.{length}
 use borrow.Author.Needs.{needs}
+use Rattle.settings.proofs.TransferLaws.{none-moved}
 use Rattle.takrun.proofs.read_all.Statement.{statement}
 use Rattle.takrun.proofs.read_all.Tie as tie
 
 abbrev Inv-loop : tie.InvT-loop
-Inv-loop fd bytes₀ count₀ bytes count = (count ≤ length bytes) × (length bytes ≡ length bytes₀)
+Inv-loop fd bytes₀ t₀ bytes t = (t .count ≤ length bytes) × (length bytes ≡ length bytes₀)
 
 abbrev μ-loop : tie.MeasureT-loop
-μ-loop fd bytes₀ count₀ bytes count = length bytes - count
+μ-loop fd bytes₀ t₀ bytes t = t .calls
+
+begun-requires : tie.Need-begun-requires Inv-loop μ-loop
+begun-requires c κs = search needs
 
 loop-holds : tie.Need-loop-holds Inv-loop μ-loop
-loop-holds c = search needs
+loop-holds c = (none-moved _ (c .begun .ensures), refl)
 
-sub-read-piece : tie.Need-sub-read-piece Inv-loop μ-loop
-sub-read-piece c = search needs
+sub-read : tie.Need-sub-read Inv-loop μ-loop
+sub-read c = search needs
 
-part-read-piece-start : tie.Need-part-read-piece-start Inv-loop μ-loop
-part-read-piece-start c = search needs
+part-read-start : tie.Need-part-read-start Inv-loop μ-loop
+part-read-start c = search needs
 
-part-read-piece-end : tie.Need-part-read-piece-end Inv-loop μ-loop
-part-read-piece-end c = search needs
+part-read-end : tie.Need-part-read-end Inv-loop μ-loop
+part-read-end c = search needs
 
-read-piece-requires : tie.Need-read-piece-requires Inv-loop μ-loop
-read-piece-requires c κs = search needs
+read-requires : tie.Need-read-requires Inv-loop μ-loop
+read-requires c κs = search needs
 
-same-length : tie.Need-same-length Inv-loop μ-loop
-same-length c = search needs
+interrupted-requires : tie.Need-interrupted-requires Inv-loop μ-loop
+interrupted-requires c κs = search needs
 
-returns : tie.Need-returns Inv-loop μ-loop
-returns c = search needs
-
-same-length-2 : tie.Need-same-length-2 Inv-loop μ-loop
-same-length-2 c = search needs
-
-returns-2 : tie.Need-returns-2 Inv-loop μ-loop
-returns-2 c = search needs
-
-add-count : tie.Need-add-count Inv-loop μ-loop
-add-count c = search needs
+after-call-requires : tie.Need-after-call-requires Inv-loop μ-loop
+after-call-requires c κs = search needs
 
 loop-less : tie.Need-loop-less Inv-loop μ-loop
 loop-less c = search needs
@@ -49,11 +44,14 @@ loop-less c = search needs
 loop-again : tie.Need-loop-again Inv-loop μ-loop
 loop-again c = search needs
 
-same-length-3 : tie.Need-same-length-3 Inv-loop μ-loop
-same-length-3 c = search needs
+contents-requires : tie.Need-contents-requires Inv-loop μ-loop
+contents-requires c κs = search needs
 
-returns-3 : tie.Need-returns-3 Inv-loop μ-loop
-returns-3 c = search needs
+same-length : tie.Need-same-length Inv-loop μ-loop
+same-length c = search needs
+
+returns : tie.Need-returns Inv-loop μ-loop
+returns c = search needs
 
 pub read-all-spec : {M : Type 1} → statement M
 read-all-spec =
@@ -61,17 +59,16 @@ read-all-spec =
     (tie.spec
     Inv-loop
     μ-loop
+    begun-requires
     loop-holds
-    sub-read-piece
-    part-read-piece-start
-    part-read-piece-end
-    read-piece-requires
-    same-length
-    returns
-    same-length-2
-    returns-2
-    add-count
+    sub-read
+    part-read-start
+    part-read-end
+    read-requires
+    interrupted-requires
+    after-call-requires
     loop-less
     loop-again
-    same-length-3
-    returns-3)
+    contents-requires
+    same-length
+    returns)

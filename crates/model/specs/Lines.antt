@@ -1,13 +1,10 @@
 -- Document 01, "Marked runs": the lines that `takrun` prints. "One space parts the fields of a line and LF ends it."
-use Prim.Native.Nat.{ℕ, _+_, _≤_}
+use Prim.Native.Nat.{ℕ}
 use mathlib.Core.List.{List, [], _∷_, _++_}
-use mathlib.Core.Path.{_≡_}
 use lib.IntN.{ℤ, pos}
-use lib.ListN.{length}
-use lib.Seq.{sets}
-use Rattle.model.specs.Calls.{endingWord}
-use Rattle.model.specs.Numbers.{bytes, decimal}
 use Rattle.model.specs.declared.Ending.{Ending}
+use Rattle.model.specs.Numbers.{bytes, decimal}
+use Rattle.model.specs.Calls.{endingWord}
 
 -- a space and a number
 abbrev pub field : ℕ → List ℕ
@@ -28,9 +25,3 @@ endingLine e ircr iar spent = endingWord e ++ field ircr ++ field iar ++ field s
 -- "A refused call prints one line, `REFUSED`, number, line index"
 abbrev pub refusalLine : (number index : ℕ) → List ℕ
 refusalLine number index = bytes "REFUSED" ++ field number ++ field index ++ (10 ∷ [])
-
--- A text put into the bytes `out` at a place where there is room for it, the others untouched; r is the place behind it.
-pub record Put (out : List ℕ) (at : ℕ) (text out′ : List ℕ) (r : ℕ) : Type 0 where
-  pub room : at + length text ≤ length out
-  pub end : r ≡ at + length text
-  pub bytes : out′ ≡ sets out at text

@@ -1,0 +1,72 @@
+-- Document 01, "Marked runs": the program `takrun`, from the contents of its three files to the bytes that it prints.
+-- "A missing file counts as empty": its contents are [].
+use Prim.Native.Nat.{ℕ, zero, suc, _*_}
+use mathlib.Core.Bool.{Bool, true, false}
+use mathlib.Core.List.{List, [], _++_}
+use lib.IntN.{ℤ, pos}
+use lib.ListN.{take, replicate}
+use Rattle.model.specs.declared.Parameters.{Parameters}
+use Rattle.model.specs.declared.Record.{Record}
+use Rattle.model.specs.declared.Ending.{Ending}
+use Rattle.model.specs.declared.Ending.the-variants.{Failed, Ended, Paused, OutputFull}
+use Rattle.model.specs.declared.Outcome.{Outcome}
+use Rattle.model.specs.declared.Outcome.the-variants.{Refused, Stopped}
+use Rattle.model.specs.declared.LoadReply.the-variants as load
+use Rattle.model.specs.Load.{loadReply, imageOf}
+use Rattle.model.specs.Grants.{Call}
+use Rattle.model.specs.Calls.{Started, started, Granted, granted}
+use Rattle.model.specs.Lines.{valueLines, endingLine, refusalLine}
+use Rattle.model.specs.Settings.{settings}
+
+-- A grant that is followed by another.
+abbrev pub isFull : Outcome → Bool
+isFull (Refused k) = false
+isFull (Stopped Failed) = false
+isFull (Stopped Ended) = false
+isFull (Stopped Paused) = false
+isFull (Stopped OutputFull) = true
+
+-- The last line; none after a full output.
+abbrev pub endingLines : Ending → Record → List ℕ
+endingLines Failed r = endingLine Failed (r .ircr) (r .iar) (r .spent)
+endingLines Ended r = endingLine Ended (r .ircr) (r .iar) (r .spent)
+endingLines Paused r = endingLine Paused (r .ircr) (r .iar) (r .spent)
+endingLines OutputFull r = []
+
+-- "A refused call prints one line, `REFUSED`, number, line index (0 but from load), and is the last."
+abbrev pub lastLines : Outcome → Record → List ℕ
+lastLines (Refused k) r = refusalLine k 0
+lastLines (Stopped e) r = endingLines e r
+
+-- "It prints each value on a line, then on one line the ending .."
+abbrev pub replyLines : Granted → List ℕ
+replyLines x = valueLines (take (x .reply .values) (x .slice)) ++ lastLines (x .reply .outcome) (x .reply .rec)
+
+-- "Its output slice has 4,096 values."
+abbrev pub sliceCall : (cycles : ℕ) → Call
+sliceCall cycles = record { cycles = cycles; slice = replicate 4096 (pos 0) }
+
+-- "grants .. then 0 after each full output": the lines from a grant of `cycles` on, over at most `grants` of them.
+unfoldable pub grantLines : (image input : List ℕ) (grants cycles : ℕ) → Record → (registers cells : List ℤ) → List ℕ
+grantLines image input zero cycles r registers cells = []
+grantLines image input (suc n) cycles r registers cells =
+    let x = granted image input r registers cells (sliceCall cycles) in
+    replyLines x
+    ++ elim (isFull (x .reply .outcome)) [ true ↦ grantLines image input n 0 (x .reply .rec) (x .registers) (x .cells) | false ↦ [] ]
+
+-- "grants 10^9 once": a full output has spent at least one of these cycles, so that 10^9 + 1 grants are never used up.
+abbrev pub startLines : (image input : List ℕ) → Started → List ℕ
+startLines image input s =
+    elim (s .reply .refusal) [
+      | zero ↦ grantLines image input 1_000_000_001 1_000_000_000 (s .reply .rec) (s .registers) (s .cells)
+      | suc k ↦ refusalLine (suc k) 0
+    ]
+
+-- What `takrun` prints for the contents of `tak.par`, `tak.tcl` and `tak.in`.
+unfoldable pub printed : (par text input : List ℕ) → List ℕ
+printed par text input =
+    let p = settings par in
+    elim (loadReply p text (replicate (4 * p .t) 0)) [
+      | load.Accepted n ↦ startLines (imageOf p text) input (started p (imageOf p text) (replicate (p .n) (pos 0)) (replicate (p .s) (pos 0)))
+      | load.Refused k i ↦ refusalLine k i
+    ]

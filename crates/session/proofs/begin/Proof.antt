@@ -1,0 +1,59 @@
+-- `begin` meets its contract. Assumes nothing.
+use native.Mathlib.Omega.{arith}
+use borrow.Author.Needs.{needs}
+use denote.Ref.{now}
+use Rattle.report.proofs.Pieces.{put-length}
+use Rattle.session.proofs.Lines.{not-begun, has-begun}
+use Rattle.session.proofs.begin.Statement.{statement}
+use Rattle.session.proofs.begin.Tie as tie
+
+start-requires : tie.Need-start-requires
+start-requires c κs = search needs
+
+put-refusal-requires : tie.Need-put-refusal-requires
+put-refusal-requires c κs = search needs
+
+same-length : tie.Need-same-length
+same-length c = search needs
+
+same-length-2 : tie.Need-same-length-2
+same-length-2 c = search needs
+
+same-length-3 : tie.Need-same-length-3
+same-length-3 c = search needs
+
+returns : tie.Need-returns
+returns c =
+    let begun = c .before .before .before .before .before .before .before .before .before in
+    let a = begun .before .before .before .before .before .args in
+    let put = c .before .before .put-refusal .ensures in (
+      not-begun (a .p) (now (a .image)) (now (a .registers)) (now (a .cells)) (now (a .lines)) (begun .start .ensures)
+          (c .before .before .before .before .if1 .taken) put,
+      omega (arith, put .room, put .end, put-length put),
+    )
+
+same-length-4 : tie.Need-same-length-4
+same-length-4 c = search needs
+
+same-length-5 : tie.Need-same-length-5
+same-length-5 c = search needs
+
+returns-2 : tie.Need-returns-2
+returns-2 c =
+    let begun = c .before .before .before .before .before in
+    let a = begun .before .before .before .before .before .args in
+    (has-begun (a .p) (now (a .image)) (now (a .registers)) (now (a .cells)) (now (a .lines)) (begun .start .ensures) (c .if1 .left), omega arith)
+
+pub begin-spec : {M : Type 1} → statement M
+begin-spec =
+    tie.close
+    (tie.spec
+    start-requires
+    put-refusal-requires
+    same-length
+    same-length-2
+    same-length-3
+    returns
+    same-length-4
+    same-length-5
+    returns-2)

@@ -1,0 +1,95 @@
+-- An intake behind a read, case by case, as the code has them; and what is known of a file before its end. Assumes nothing.
+use Prim.Native.Nat.{ℕ, suc, _-_, _<_}
+use mathlib.Core.Path.{_≡_, refl, sym, ap, _∙_}
+use mathlib.Core.Bool.{Bool, true, false, _&&_, _||_, cond, false≢true}
+use mathlib.Core.List.{List, [], _∷_, _++_, foldl-append}
+use native.Mathlib.Omega.{arith}
+use lib.Dec.{eqb, ltb}
+use lib.ListN.{take}
+use borrow.Author.Tests.{eq-eqb, ne-eqb, eqb-true, ltb-true}
+use Rattle.model.proofs.Fits.{both, by-cond}
+use Rattle.model.specs.Numbers.{isBlank}
+use Rattle.model.specs.Settings.{zeros, settings}
+use Rattle.settings.specs.Intakes.{knownWrong, goesOn, atEnd, taken}
+use Rattle.settings.specs.Scans.{unread, counted, ended, extends, scanned, scannedAll, scanOf, settled}
+use Rattle.settings.specs.declared.Scan.{Scan}
+use Rattle.settings.specs.declared.intakes.Intake.{Intake}
+use Rattle.settings.specs.declared.transfers.Transfer.{Transfer}
+use Rattle.settings.proofs.ScanLaws.{Void, ended-word, ended-void, scanned-blank, scanned-digit, scanned-bad, scanned-void}
+use Rattle.settings.proofs.Chunks.{settled-void, settled-file}
+
+-- A scan, by the code's tests.
+module _ (a : Scan) where
+  pub wrong-word : a .count ≡ 6 → eqb (a .count) 6 ≡ knownWrong a
+  unfolding knownWrong
+  wrong-word h = sym (simp (knownWrong, eq-eqb (a .count) 6 h))
+
+  pub wrong-sixth : ¬ (a .count ≡ 6) → a .count ≡ 5 → ltb 0 (a .digits) ≡ knownWrong a
+  unfolding knownWrong
+  wrong-sixth h k = sym (simp (knownWrong, ne-eqb (a .count) 6 h, eq-eqb (a .count) 5 k))
+
+  pub not-wrong : ¬ (a .count ≡ 6) → ¬ (a .count ≡ 5) → eqb (a .count) 5 ≡ knownWrong a
+  unfolding knownWrong
+  not-wrong h k = sym (simp (knownWrong, ne-eqb (a .count) 6 h, ne-eqb (a .count) 5 k))
+
+module _ (a : Intake) (s : Scan) where
+  pub known : knownWrong s ≡ true → record { scan = s; calls = 0 } ≡ goesOn a s
+  unfolding goesOn
+  known h = sym (simp (goesOn, h))
+
+  pub unknown : knownWrong s ≡ false → record { scan = s; calls = a .calls - 1 } ≡ goesOn a s
+  unfolding goesOn
+  unknown h = sym (simp (goesOn, h))
+
+  pub goes-on-less : 0 < a .calls → goesOn a s .calls < a .calls
+  unfolding goesOn
+  goes-on-less h = by-cond (λ (n : ℕ). n < a .calls) (knownWrong s) 0 (a .calls - 1) (λ e. h) (λ e. omega (arith, h))
+
+module _ (a : Intake) (t : Transfer) (bytes : List ℕ) where
+  pub taken-failed : t .failed ≡ true → record { scan = unread; calls = 0 } ≡ taken a t bytes
+  unfolding taken
+  taken-failed h = sym (simp (taken, h))
+
+  pub taken-end : t .failed ≡ false → atEnd t ≡ true → record { scan = a .scan; calls = 0 } ≡ taken a t bytes
+  unfolding taken
+  taken-end h e = sym (simp (taken, h, e))
+
+  pub taken-piece : t .failed ≡ false → atEnd t ≡ false → goesOn a (scannedAll (a .scan) (take (t .count) bytes)) ≡ taken a t bytes
+  unfolding taken
+  taken-piece h e = sym (simp (taken, h, e))
+
+-- A FILE THAT IS KNOWN TO BE WRONG
+-- A sixth word has begun.
+record Sixth (a : Scan) : Type 0 where
+  count : a .count ≡ 5
+  some : 0 < a .digits
+
+sixth-ended : (a : Scan) → Sixth a → Void (ended a)
+sixth-ended a h = ap (λ (r : Scan). r .count) (ended-word a (λ e. omega (arith, h .some))) ∙ ap counted (h .count)
+
+settled-sixth : (s : List ℕ) (a : Scan) → Sixth a → settled (scannedAll a s) ≡ zeros
+unfolding settled
+settled-sixth [] a h = simp (settled, sixth-ended a h)
+settled-sixth (b ∷ s) a h = go (isBlank b) refl (extends a b) refl (settled-sixth s)
+  where
+    go : (x : Bool) → isBlank b ≡ x → (y : Bool) → extends a b ≡ y → ((r : Scan) → Sixth r → settled (scannedAll r s) ≡ zeros) →
+        settled (scannedAll (scanned a b) s) ≡ zeros
+    go true n y e later = rw (scanned-blank a b n) (settled-void s (ended a) (sixth-ended a h))
+    go false n true e later = rw (scanned-digit a b n e) (later _ (record { count = h .count; some = omega (arith, h .some) }))
+    go false n false e later = rw (scanned-bad a b n e) (settled-void s _ refl)
+
+wrong-settled : (s : List ℕ) (a : Scan) → knownWrong a ≡ true → settled (scannedAll a s) ≡ zeros
+unfolding knownWrong
+wrong-settled s a h = go (eqb (a .count) 6) refl h
+  where
+    go : (x : Bool) → eqb (a .count) 6 ≡ x → (x || (eqb (a .count) 5 && ltb 0 (a .digits))) ≡ true → settled (scannedAll a s) ≡ zeros
+    go true e k = settled-void s a (eqb-true (a .count) 6 e)
+    go false e k =
+        let b = both (eqb (a .count) 5) (ltb 0 (a .digits)) k in
+        settled-sixth s a (record { count = eqb-true (a .count) 5 (b .0); some = ltb-true 0 (a .digits) (b .1) })
+
+-- Where the bytes so far are known to be wrong, every file that begins with them counts as five zeros, and so does the scan that stops there.
+pub known-wrong : (before : List ℕ) → knownWrong (scanOf before) ≡ true →
+    (settled (scanOf before) ≡ zeros) × ((rest : List ℕ) → settings (before ++ rest) ≡ zeros)
+known-wrong before h =
+    (wrong-settled [] (scanOf before) h, λ rest. sym (settled-file (before ++ rest)) ∙ ap settled (foldl-append scanned unread before rest) ∙ wrong-settled rest (scanOf before) h)
