@@ -5,8 +5,9 @@
 
 #include "tak.h"
 
-/* The parameters fix the lengths of the slices: 4 words for each of T instruction cells, N registers, S data cells. */
-enum { K = 8, N = 2, S = 4, B = 2, T = 6, OUTPUT = 4 };
+/* The parameters fix the lengths of the slices: 4 words for each of T instruction cells, N registers, S data cells.
+ * All five differ, so that no two of them can be exchanged unseen. */
+enum { K = 9, N = 3, S = 5, B = 2, T = 7, OUTPUT = 4 };
 
 /* The machine between two calls. Nothing else is kept anywhere. */
 static uint32_t image[4 * T];
@@ -26,7 +27,8 @@ static void start(void)
 {
     uint32_t refusal = tak_start(K, N, S, B, T, image, 4 * T, registers, N, cells, S, record, TAK_RECORD);
 
-    printf("start: refusal %" PRIu32 ", SHR %" PRId64 "\n", refusal, record[TAK_SHR]);
+    printf("start: refusal %" PRIu32 ", K %" PRId64 ", N %" PRId64 ", S %" PRId64 ", B %" PRId64 ", T %" PRId64 ", SHR %" PRId64 "\n",
+           refusal, record[TAK_K], record[TAK_N], record[TAK_S], record[TAK_B], record[TAK_T], record[TAK_SHR]);
 }
 
 /* The value as the decimal writer spells it. */
@@ -76,7 +78,7 @@ int main(void)
     uint32_t image_before[4 * T];
     int64_t record_before[TAK_RECORD];
 
-    load("SET R0 13\nSET R1 -10\nDIV R0 R1 R1\nOUT R1\n");
+    load("SET R0 13\nSET R2 -10\nDIV R0 R2 R2\nOUT R2\n");
     start();
     grant(52);
     grant(50);
@@ -86,7 +88,9 @@ int main(void)
 
     memcpy(image_before, image, sizeof image);
     memcpy(record_before, record, sizeof record);
-    load("SET R0 13\nSET R0 128\n");
+    load("SET R0 255\nSET R0 256\n"); /* 9 bits hold -256..255 */
+    load("SET R2 13\nSET R3 13\n"); /* there are 3 registers */
+    load("SET DM1 13\nSET DM2 13\n"); /* and 2 cells with a name */
     grant(1000000001);
     printf("image %s, record %s\n", memcmp(image, image_before, sizeof image) == 0 ? "as before" : "changed",
            memcmp(record, record_before, sizeof record) == 0 ? "as before" : "changed");
