@@ -1,0 +1,194 @@
+"""Compares the functions that the crate tak exports with their declarations: names, order, types, constness, lengths of slices, result.
+
+A function in one form: its name, its result, and of each parameter the name, what it is ("" a number, "in" a pointer that the call reads
+through, "out" one that it may write through) and the type of the number. A slice is two parameters, a pointer and its length.
+"""
+import glob
+import re
+import sys
+
+SOURCES = "crates/tak/src/*.rt"
+HEADER = "include/tak.h"
+RUST = ("callers/**/*.rs", "tests/**/*.rs", "bench/**/*.rs")
+
+# The one name that differs: contracts have another use for the word `record`.
+RENAMED = {"numbers": "record"}
+C_TYPES = {f"{sign}int{bits}_t": f"{letter}{bits}" for sign, letter in (("u", "u"), ("", "i")) for bits in (8, 16, 32, 64)}
+C_TYPES |= {"size_t": "usize", "void": "nothing"}
+
+
+def read(path):
+    with open(path, encoding="utf-8") as f:
+        return f.read()
+
+
+def split(parameters):
+    """A list of parameters at its commas."""
+    return [part.strip() for part in parameters.split(",") if part.strip()]
+
+
+def source_parameters(parameters):
+    parts = [re.fullmatch(r"(\w+): (&mut |&)?(\[(\w+)\]|\w+)", part) for part in split(parameters)]
+    slices = sum(1 for part in parts if part[4])
+    for part in parts:
+        name, way = RENAMED.get(part[1], part[1]), {"&mut ": "out", "&": "in", None: ""}[part[2]]
+        if part[4]:
+            yield name, way, part[4]
+            yield (f"{name}_length" if slices > 1 else "length"), "", "usize"
+        else:
+            yield name, way, part[3]
+
+
+def of_source(text):
+    """The functions that Rattle source exports."""
+    found = re.findall(r'#\[no_mangle\]\npub extern "C" fn (\w+)\(([^)]*)\)(?: -> (\w+))?\n', text)
+    if len(found) != len(re.findall(r'no_mangle|extern "C" fn', re.sub(r"//.*", "", text))) / 2:
+        raise ValueError("an exported function in another form")
+    return {name: (result or "nothing", list(source_parameters(parameters))) for name, parameters, result in found}
+
+
+def c_parameter(text):
+    part = re.fullmatch(r"(const )?(\w+) (\*?)(\w+)", text)
+    if not part or part[1] and not part[3]:
+        raise ValueError(f"a parameter in another form: {text}")
+    return part[4], ("in" if part[1] else "out") if part[3] else "", C_TYPES.get(part[2], part[2])
+
+
+def of_header(text):
+    """The functions that a C header declares."""
+    text = re.sub(r"/\*.*?\*/", "", text, flags=re.S)
+    text = re.sub(r"^#.*$", "", text, flags=re.M)
+    found = re.findall(r"^(\w+) (\w+)\(([^()]*)\);$", text, re.M)
+    if len(found) != text.count("("):
+        raise ValueError("a declaration in another form")
+    return {
+        name: (C_TYPES.get(result, result), [c_parameter(" ".join(part.split())) for part in split(parameters)])
+        for result, name, parameters in found
+    }
+
+
+def rust_parameter(text):
+    part = re.fullmatch(r"(\w+): (\*const |\*mut )?(\w+)", text)
+    if not part:
+        raise ValueError(f"a parameter in another form: {text}")
+    return part[1], {"*const ": "in", "*mut ": "out", None: ""}[part[2]], part[3]
+
+
+def of_rust(text):
+    """The functions tak_.. that the `extern` blocks of a Rust file declare."""
+    functions = {}
+    for block in re.findall(r'extern "C" \{\n(.*?)^\}', re.sub(r"//.*", "", text), re.S | re.M):
+        found = re.findall(r"fn (\w+)\(([^()]*)\)(?: -> (\w+))?;", block)
+        if len(found) != len(re.findall(r"\bfn\b", block)):
+            raise ValueError("a declaration in another form")
+        for name, parameters, result in found:
+            if name.startswith("tak_"):
+                functions[name] = (result or "nothing", [rust_parameter(part) for part in split(parameters)])
+    return functions
+
+
+def differences(exported, declared):
+    """A line for each function that is not the same in both."""
+    wrong = [f"{name} is declared and not exported" for name in sorted(declared.keys() - exported.keys())]
+    wrong += [f"{name} is exported and not declared" for name in sorted(exported.keys() - declared.keys())]
+    for name in sorted(exported.keys() & declared.keys()):
+        (result, wanted), (declared_result, got) = exported[name], declared[name]
+        if result != declared_result:
+            wrong.append(f"{name} gives {result} and is declared to give {declared_result}")
+        if wanted != got:
+            at = next((i for i, (w, g) in enumerate(zip(wanted, got)) if w != g), min(len(wanted), len(got)))
+            shown = [" ".join(word for word in side[at] if word) if at < len(side) else "nothing" for side in (wanted, got)]
+            wrong.append(f"{name}: parameter {at + 1} is '{shown[0]}' and is declared as '{shown[1]}'")
+    return wrong
+
+
+def replaced(text, old, new, behind=""):
+    """The text with the first `old` after `behind` replaced, which must be there."""
+    start = text.index(behind) if behind else 0
+    at = text.index(old, start)
+    return text[:at] + new + text[at + len(old) :]
+
+
+def altered_headers(text):
+    """Headers that must be found wrong, with what was done."""
+    for name in ("tak_load", "tak_start"):
+        behind = f"uint32_t {name}("
+        five = "uint32_t k, uint32_t n, uint32_t s, uint32_t b, uint32_t t"
+        letters = "knsbt"
+        for i in range(5):
+            for j in range(i):
+                order = list(letters)
+                order[i], order[j] = order[j], order[i]
+                other = ", ".join(f"uint32_t {letter}" for letter in order)
+                yield f"{name} with {letters[j]} and {letters[i]} exchanged", replaced(text, five, other, behind)
+    yield "a length missing", replaced(text, ", size_t image_length", "", "tak_start(")
+    yield "a length before its pointer", replaced(text, "const uint8_t *text, size_t text_length", "size_t text_length, const uint8_t *text")
+    yield "two slices exchanged", replaced(text, "int32_t *registers, size_t registers_length,\n                   int32_t *cells, size_t cells_length", "int32_t *cells, size_t cells_length,\n                   int32_t *registers, size_t registers_length", "tak_grant(")
+    yield "a const missing", replaced(text, "const uint32_t *image", "uint32_t *image", "tak_grant(")
+    yield "a const too many", replaced(text, "int32_t *cells", "const int32_t *cells", "tak_grant(")
+    yield "a pointer missing", replaced(text, "uint64_t *spent", "uint64_t spent")
+    yield "another width", replaced(text, "uint64_t cycles", "uint32_t cycles")
+    yield "another sign", replaced(text, "int32_t value", "uint32_t value")
+    yield "another type behind a pointer", replaced(text, "int32_t *output", "int64_t *output")
+    yield "another result", replaced(text, "uint32_t tak_decimal", "int32_t tak_decimal")
+    yield "no result", replaced(text, "uint32_t tak_decimal", "void tak_decimal")
+    yield "a parameter too many", replaced(text, "uint64_t *count)", "uint64_t *count, uint64_t *more)")
+    yield "the last parameter missing", replaced(text, ", uint64_t *count)", ")")
+    yield "another name of a parameter", replaced(text, "uint64_t *values", "uint64_t *written")
+    yield "another name of a function", replaced(text, "tak_decimal(", "tak_decimals(")
+    decimal = text[text.index("uint32_t tak_decimal(") :].split("\n")[0]
+    yield "a function missing", replaced(text, decimal, "")
+    yield "a function too many", replaced(text, decimal, f"{decimal}\nuint32_t tak_more(uint32_t k);")
+
+
+def altered_rust(text):
+    yield "Rust with n and b exchanged", replaced(text, "n: u32,\n        s: u32,\n        b: u32", "b: u32,\n        s: u32,\n        n: u32", "fn tak_start(")
+    yield "Rust with a pointer that may not be written through", replaced(text, "*mut i32", "*const i32", "fn tak_grant(")
+    yield "Rust with a length missing", replaced(text, "        image_length: usize,\n", "", "fn tak_start(")
+    yield "Rust with a function missing", re.sub(r"    fn tak_decimal\(.*\n", "", text)
+
+
+def altered_sources(text):
+    for name in ("tak_load", "tak_start"):
+        yield f"{name} with n and b exchanged in the source", replaced(text, "n: u32,\n    s: u32,\n    b: u32", "b: u32,\n    s: u32,\n    n: u32", f"fn {name}(")
+    yield "a slice that may be written in the source", replaced(text, "image: &[u32]", "image: &mut [u32]", "fn tak_start(")
+    yield "a function that is exported no longer", replaced(text, '#[no_mangle]\npub extern "C" fn tak_decimal', "fn tak_decimal")
+
+
+def main():
+    source = "".join(read(path) for path in sorted(glob.glob(SOURCES)))
+    header = read(HEADER)
+    rust = {path: read(path) for pattern in RUST for path in sorted(glob.glob(pattern, recursive=True))}
+    exported = of_source(source)
+    in_rust = {path: of_rust(text) for path, text in rust.items()}
+    in_rust = {path: functions for path, functions in in_rust.items() if functions}
+    passed, wrong = 0, []
+
+    def count(lines):
+        nonlocal passed
+        wrong.extend(lines)
+        passed += 0 if lines else 1
+
+    def found(what, lines):
+        count([] if lines else [f"not found wrong: {what}"])
+
+    count([] if exported else ["the crate exports nothing"])
+    count([f"{HEADER}: {line}" for line in differences(exported, of_header(header))])
+    count([] if in_rust else ["no Rust file declares the functions"])
+    for path, functions in in_rust.items():
+        count([f"{path}: {line}" for line in differences(exported, functions)])
+    for what, text in altered_headers(header):
+        found(what, differences(exported, of_header(text)))
+    for path in in_rust:
+        for what, text in altered_rust(rust[path]):
+            found(f"{what} ({path})", differences(exported, of_rust(text)))
+    for what, text in altered_sources(source):
+        found(what, differences(of_source(text), of_header(header)))
+    for line in wrong:
+        print(f"header: {line}")
+    print(f"{passed} passed, {len(wrong)} failed")
+    return 1 if wrong else 0
+
+
+if __name__ == "__main__":
+    sys.exit(main())
