@@ -1,6 +1,6 @@
 /* Loaded into takrun before the C library (LD_PRELOAD): system calls that answer as the system may, and seldom does.
  *
- * ODD says what is odd. At the end the count of odd answers goes into the file that ODD_COUNT names, so that a test knows that there were some.
+ * ODD says what is odd, ODD_FILE of which file. At the end the count of odd answers goes into the file that ODD_COUNT names, so that a test knows that there were some.
  */
 #include <errno.h>
 #include <fcntl.h>
@@ -8,13 +8,14 @@
 #include <stdio.h>
 #include <stdlib.h>
 #include <string.h>
+#include <sys/stat.h>
 #include <sys/syscall.h>
 #include <sys/time.h>
 #include <unistd.h>
 
 enum { FEW = 7 };
 
-static unsigned long odd, writes, reads;
+static unsigned long odd, writes;
 
 static int is(const char *mode)
 {
@@ -57,11 +58,22 @@ ssize_t write(int fd, const void *bytes, size_t count)
     return syscall(SYS_write, fd, bytes, count);
 }
 
+/* Whether the descriptor is open on the file that ODD_FILE names. */
+static int on_file(int fd)
+{
+    const char *path = getenv("ODD_FILE");
+    struct stat named, open_one;
+
+    return path != NULL && stat(path, &named) == 0 && fstat(fd, &open_one) == 0 && named.st_dev == open_one.st_dev &&
+           named.st_ino == open_one.st_ino;
+}
+
 ssize_t read(int fd, void *bytes, size_t count)
 {
-    reads++;
     if (is("short reads"))
         count = at_most_few(count);
+    if (is("failing reads") && on_file(fd) && lseek(fd, 0, SEEK_CUR) > 0)
+        return fails(EIO);
     return syscall(SYS_read, fd, bytes, count);
 }
 

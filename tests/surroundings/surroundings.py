@@ -143,13 +143,25 @@ def _(folder):
 # ---- tak.par
 
 
+def spread(words):
+    """A tak.par of 70 MB: blanks before, between and behind the words, the last of which stands behind a thousand pieces."""
+    gap = b" \t\r\n" * 3_300_000
+    content = gap.join([b"", *words]).ljust(70_000_000)
+    if len(content) != 70_000_000 or content.rindex(words[-1]) <= 1000 * PIECE:
+        raise Wrong("the words stand elsewhere")
+    return content
+
+
 @case("tak.par of 70 MB")
 def _(folder):
-    gap = b" \t\r\n" * 2_920_000
-    put(folder, FILES | {"tak.par": gap.join([b"", *PAR.split(), b""])})
-    if os.path.getsize(os.path.join(folder, "tak.par")) < 70_000_000:
-        raise Wrong("the file is too short")
+    put(folder, FILES | {"tak.par": spread(PAR.split())})
     gives(folder, SUM)
+
+
+@case("tak.par of 70 MB, a sixth word at its end")
+def _(folder):
+    put(folder, FILES | {"tak.par": spread(PAR.split())[:-2] + b"7\n"})
+    gives(folder, b"REFUSED 1 0\n")
 
 
 def across(cuts):
@@ -395,10 +407,11 @@ def _(folder, way):
 # ---- system calls that answer oddly
 
 
-def odd_run(folder, mode):
+def odd_run(folder, mode, name=""):
     """The output of a run with odd answers to its calls, read slowly; there must have been some."""
     count = os.path.join(folder, "odd-count")
-    process, reader = piped(folder, env={"LD_PRELOAD": os.path.join(WORK, "odd.so"), "ODD": mode, "ODD_COUNT": count})
+    env = {"LD_PRELOAD": os.path.join(WORK, "odd.so"), "ODD": mode, "ODD_FILE": os.path.join(folder, name), "ODD_COUNT": count}
+    process, reader = piped(folder, env=env)
     got = drain(reader, 20000, 0.005)
     os.close(reader)
     ends(process)
@@ -417,6 +430,12 @@ def _(folder, mode):
 def _(folder, mode):
     put(folder, FILES)
     same(SUM, odd_run(folder, mode))
+
+
+@each("odd calls: a read fails behind the bytes of", *EMPTY)
+def _(folder, name):
+    put(folder, FILES)
+    same(EMPTY[name], odd_run(folder, "failing reads", name))
 
 
 @each("odd calls:", "second write fails", "second write would block")
