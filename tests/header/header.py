@@ -1,4 +1,5 @@
-"""Compares the functions that the crate tak exports with their declarations: names, order, types, constness, lengths of slices, result.
+"""Compares the functions that the crate tak exports with their declarations: names, order, types, constness, lengths of slices, result; and the
+header's constants with those of the Rust package, by which tests/model reads records and endings.
 
 A function in one form: its name, its result, and of each parameter the name, what it is ("" a number, "in" a pointer that the call reads
 through, "out" one that it may write through) and the type of the number. A slice is two parameters, a pointer and its length.
@@ -9,6 +10,7 @@ import sys
 
 SOURCES = "crates/tak/src/*.rt"
 HEADER = "include/tak.h"
+PACKAGE = "callers/rust/src/lib.rs"
 RUST = ("callers/**/*.rs", "tests/**/*.rs", "bench/**/*.rs")
 
 # The one name that differs: contracts have another use for the word `record`.
@@ -87,6 +89,30 @@ def of_rust(text):
     return functions
 
 
+def header_constants(text):
+    """The constants that a C header defines, without their TAK_."""
+    text = re.sub(r"/\*.*?\*/", "", text, flags=re.S)
+    constants = {name: int(value) for name, value in re.findall(r"^#define TAK_(\w+) (\d+)$", text, re.M)}
+    for body in re.findall(r"enum \{(.*?)\}", text, re.S):
+        following = 0
+        for name, value in re.findall(r"TAK_(\w+)(?: = (\d+))?", body):
+            following = int(value or following)
+            constants[name] = following
+            following += 1
+    return constants
+
+
+def rust_constants(text):
+    return {name: int(value) for name, value in re.findall(r"pub const (\w+): \w+ = (\d+);", text)}
+
+
+def other_constants(header, package):
+    """A line for each constant that is not the same in both."""
+    here, there = header_constants(header), rust_constants(package)
+    names = sorted(here.keys() | there.keys())
+    return [f"TAK_{name} is {here.get(name)}, in Rust {there.get(name)}" for name in names if here.get(name) != there.get(name)]
+
+
 def differences(exported, declared):
     """A line for each function that is not the same in both."""
     wrong = [f"{name} is declared and not exported" for name in sorted(declared.keys() - exported.keys())]
@@ -123,7 +149,9 @@ def altered_headers(text):
                 yield f"{name} with {letters[j]} and {letters[i]} exchanged", replaced(text, five, other, behind)
     yield "a length missing", replaced(text, ", size_t image_length", "", "tak_start(")
     yield "a length before its pointer", replaced(text, "const uint8_t *text, size_t text_length", "size_t text_length, const uint8_t *text")
-    yield "two slices exchanged", replaced(text, "int32_t *registers, size_t registers_length,\n                   int32_t *cells, size_t cells_length", "int32_t *cells, size_t cells_length,\n                   int32_t *registers, size_t registers_length", "tak_grant(")
+    registers, cells = (f"int32_t *{name}, size_t {name}_length" for name in ("registers", "cells"))
+    between = ",\n                   "
+    yield "two slices exchanged", replaced(text, registers + between + cells, cells + between + registers, "tak_grant(")
     yield "a const missing", replaced(text, "const uint32_t *image", "uint32_t *image", "tak_grant(")
     yield "a const too many", replaced(text, "int32_t *cells", "const int32_t *cells", "tak_grant(")
     yield "a pointer missing", replaced(text, "uint64_t *spent", "uint64_t spent")
@@ -142,17 +170,27 @@ def altered_headers(text):
 
 
 def altered_rust(text):
-    yield "Rust with n and b exchanged", replaced(text, "n: u32,\n        s: u32,\n        b: u32", "b: u32,\n        s: u32,\n        n: u32", "fn tak_start(")
+    right, wrong = (",\n        ".join(f"{letter}: u32" for letter in order) for order in ("nsb", "bsn"))
+    yield "Rust with n and b exchanged", replaced(text, right, wrong, "fn tak_start(")
     yield "Rust with a pointer that may not be written through", replaced(text, "*mut i32", "*const i32", "fn tak_grant(")
     yield "Rust with a length missing", replaced(text, "        image_length: usize,\n", "", "fn tak_start(")
     yield "Rust with a function missing", re.sub(r"    fn tak_decimal\(.*\n", "", text)
 
 
 def altered_sources(text):
+    right, wrong = (",\n    ".join(f"{letter}: u32" for letter in order) for order in ("nsb", "bsn"))
     for name in ("tak_load", "tak_start"):
-        yield f"{name} with n and b exchanged in the source", replaced(text, "n: u32,\n    s: u32,\n    b: u32", "b: u32,\n    s: u32,\n    n: u32", f"fn {name}(")
+        yield f"{name} with n and b exchanged in the source", replaced(text, right, wrong, f"fn {name}(")
     yield "a slice that may be written in the source", replaced(text, "image: &[u32]", "image: &mut [u32]", "fn tak_start(")
     yield "a function that is exported no longer", replaced(text, '#[no_mangle]\npub extern "C" fn tak_decimal', "fn tak_decimal")
+
+
+def altered_constants(text):
+    yield "IAR and IRCR exchanged", text.replace("TAK_IAR,", "TAK_#,").replace("TAK_IRCR,", "TAK_IAR,").replace("TAK_#,", "TAK_IRCR,")
+    yield "a field missing", re.sub(r"    TAK_PLACE,.*\n", "", text)
+    yield "another ending", replaced(text, "TAK_PAUSED = 3", "TAK_PAUSED = 4")
+    yield "another size", replaced(text, "TAK_DECIMAL_BYTES 11", "TAK_DECIMAL_BYTES 10")
+    yield "a constant missing", re.sub(r"#define TAK_RECORD_SIZE.*\n", "", text)
 
 
 def main():
@@ -177,6 +215,9 @@ def main():
     count([] if in_rust else ["no Rust file declares the functions"])
     for path, functions in in_rust.items():
         count([f"{path}: {line}" for line in differences(exported, functions)])
+    count([f"{HEADER}: {line}" for line in other_constants(header, rust[PACKAGE])])
+    for what, text in altered_constants(header):
+        found(what, other_constants(text, rust[PACKAGE]))
     for what, text in altered_headers(header):
         found(what, differences(exported, of_header(text)))
     for path in in_rust:

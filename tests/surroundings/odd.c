@@ -1,6 +1,7 @@
 /* Loaded into takrun before the C library (LD_PRELOAD): system calls that answer as the system may, and seldom does.
  *
- * ODD says what is odd, ODD_FILE of which file. At the end the count of odd answers goes into the file that ODD_COUNT names, so that a test knows that there were some.
+ * ODD says what is odd, ODD_FILE of which file. At the end the count of odd answers goes into the file that ODD_COUNT names, so that a test
+ * knows that there were some.
  */
 #include <errno.h>
 #include <fcntl.h>
