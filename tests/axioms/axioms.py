@@ -110,11 +110,14 @@ def main():
             passed += 1
         else:
             wrong.append(f"{crate}: {said}")
-    for what, crate, report in altered(reports):
-        if wrong_in(crate, crate in programs or crate == "another", report, ours) is None:
-            wrong.append(f"not found wrong: {what} ({crate})")
-        else:
-            passed += 1
+    try:
+        for what, crate, report in altered(reports):
+            if wrong_in(crate, crate in programs or crate == "another", report, ours) is None:
+                wrong.append(f"not found wrong: {what} ({crate})")
+            else:
+                passed += 1
+    except ValueError as error:
+        wrong.append(f"the reports cannot be altered: {error}")
     for line in wrong:
         print(f"axioms: {line}")
     print(f"{passed} passed, {len(wrong)} failed")

@@ -216,15 +216,16 @@ def main():
     for path, functions in in_rust.items():
         count([f"{path}: {line}" for line in differences(exported, functions)])
     count([f"{HEADER}: {line}" for line in other_constants(header, rust[PACKAGE])])
-    for what, text in altered_constants(header):
-        found(what, other_constants(text, rust[PACKAGE]))
-    for what, text in altered_headers(header):
-        found(what, differences(exported, of_header(text)))
-    for path in in_rust:
-        for what, text in altered_rust(rust[path]):
-            found(f"{what} ({path})", differences(exported, of_rust(text)))
-    for what, text in altered_sources(source):
-        found(what, differences(of_source(text), of_header(header)))
+    if not wrong:  # each alteration makes something wrong of what is right
+        for what, text in altered_constants(header):
+            found(what, other_constants(text, rust[PACKAGE]))
+        for what, text in altered_headers(header):
+            found(what, differences(exported, of_header(text)))
+        for path in in_rust:
+            for what, text in altered_rust(rust[path]):
+                found(f"{what} ({path})", differences(exported, of_rust(text)))
+        for what, text in altered_sources(source):
+            found(what, differences(of_source(text), of_header(header)))
     for line in wrong:
         print(f"header: {line}")
     print(f"{passed} passed, {len(wrong)} failed")
