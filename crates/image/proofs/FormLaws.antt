@@ -1,6 +1,7 @@
 -- The table of forms, read at an instruction's number. Assumes nothing.
-use Prim.Native.Nat.{ℕ, _-_}
+use Prim.Native.Nat.{ℕ, zero, suc, _-_}
 use mathlib.Core.Path.{_≡_, refl}
+use native.Mathlib.Omega.{arith}
 use lib.ListN.{length, getD, List·getD-map}
 use Rattle.model.specs.Instructions.{Row, rows, rowOf}
 use Rattle.image.specs.Forms.{packed, formTable}
@@ -11,4 +12,7 @@ table-length = refl
 
 pub table-entry : (n : ℕ) → getD formTable (n - 1) 0 ≡ packed (rowOf n .forms)
 unfolding formTable packed rowOf
-table-entry n = List·getD-map (λ (r : Row). packed (r .forms)) rows (n - 1) _
+table-entry zero = refl
+table-entry (suc n) =
+    let e : suc n - 1 ≡ n = omega arith in
+    rw e (List·getD-map (λ (r : Row). packed (r .forms)) rows n (rowOf 0))

@@ -36,4 +36,5 @@ numbered-at k (r ∷ rs) (suc n) d h l =
 
 pub name-back : (n : ℕ) → 1 ≤ n → n ≤ length rows → lookup (rowOf n .name) ≡ n
 unfolding rowOf
-name-back n l h = numbered-at 1 rows (n - 1) _ all-numbered (omega arith) ∙ omega arith
+name-back zero l h = absurd (omega arith)
+name-back (suc n) l h = numbered-at 1 rows n _ all-numbered (omega arith) ∙ omega arith

@@ -21,7 +21,7 @@ use Rattle.model.specs.Load.{linesFrom, wordsFrom, sameWord, lookupFrom,
 use Rattle.model.specs.Images.{wordFits, wordsFit, cellFits, allZero, cellsFit}
 use Rattle.model.specs.Machine.{look, lookAt}
 use Rattle.model.specs.Grants.{Call, handBack, refuse, advance, loop, run, accept, grant}
-use Rattle.model.specs.Step.{registerValue, valueOf, store, jumpTo, push, pop, blanksOf, tokenOf, input, execute, stateStatus, stepCost, stepValues, step}
+use Rattle.model.specs.Step.{Environment, environmentOf, freshState, registerValue, valueOf, store, jumpTo, push, pop, blanksOf, tokenOf, input, execute, stateStatus, stepCost, stepValues, step}
 use Rattle.model.specs.Calls.{Granted, granted, started, startChecks, recordFits, grantChecks, grantRefusal, endingWord}
 use Rattle.model.specs.Lines.{valueLines}
 use Rattle.model.specs.Settings.{fieldsFrom, setting, allSettings}
@@ -89,6 +89,12 @@ stack text = left text .rec .shr ∷ left text .cells
 -- The number of a start with this image.
 starts : List ℕ → List ℕ
 starts image = refusalOf (startChecks p image (zeros 2) (zeros 4)) ∷ []
+
+-- A cell with this head and a register: its row's name and forms; its cost and how many values it writes.
+headed : ℕ → List (List ℕ)
+headed n =
+    let e : Environment = environmentOf p (n ∷ 0x40000000 ∷ replicate 22 0) [] in
+    rowOf n .name ∷ rowOf n .forms ∷ (stepCost e (freshState p) ∷ length (stepValues e (freshState p)) ∷ []) ∷ []
 
 -- Something computed and what document 01 says of it.
 pub data Mark : Type 0 where
@@ -173,8 +179,11 @@ decisions =
     ∷ values (registers "SET R0 -13\nSET R1 -10\nDIV R0 R1 R1") (negsuc 12 ∷ pos 1 ∷ [])
     ∷ words (ends "OUT IAR\nMOV IAR R0") (0 ∷ 2 ∷ 53 ∷ [])
     ∷ words (ends "IN R0") (3 ∷ 0 ∷ 51 ∷ [])
+    -- a head that is no instruction's number counts as NOP
+    ∷ grants (headed 0) (bytes "NOP" ∷ [] ∷ (1 ∷ 0 ∷ []) ∷ [])
+    ∷ grants (headed 55) (bytes "NOP" ∷ [] ∷ (1 ∷ 0 ∷ []) ∷ [])
     ∷ []
 
 pub decided-points : map computed decisions ≡ map said decisions
-unfolding firstCell reply loads calls zeros from answers spends prints left ends registers stack computed decisions said starts parameterChecks digitsFrom checked divide remainder negation logic bitsOf signedOf bitwise shiftLeft shiftRight shiftRightSigned rowOf directs costOf linesFrom wordsFrom sameWord lookupFrom names specialOf plain argument allows isWithin argumentsFrom lineCell linesReply linesWords textReply imageOf loadChecks loadReply wordFits wordsFit cellFits allZero cellsFit look lookAt handBack refuse advance loop run accept grant registerValue valueOf store jumpTo push pop blanksOf tokenOf input execute stateStatus stepCost stepValues step granted started startChecks recordFits grantChecks grantRefusal gives leaves joinedOutputs
+unfolding firstCell reply loads calls zeros from answers spends prints left ends registers stack computed decisions said starts headed parameterChecks digitsFrom checked divide remainder negation logic bitsOf signedOf bitwise shiftLeft shiftRight shiftRightSigned rowOf directs costOf linesFrom wordsFrom sameWord lookupFrom names specialOf plain argument allows isWithin argumentsFrom lineCell linesReply linesWords textReply imageOf loadChecks loadReply wordFits wordsFit cellFits allZero cellsFit look lookAt handBack refuse advance loop run accept grant registerValue valueOf store jumpTo push pop blanksOf tokenOf input execute stateStatus stepCost stepValues step granted started startChecks recordFits grantChecks grantRefusal gives leaves joinedOutputs
 decided-points = refl

@@ -191,8 +191,9 @@ module _ (k m : ℕ) (one : 1 ≤ m) (two : 2 * m ≡ 2 ^ k) where
 
 pub row-range : (k n : ℕ) → 8 ≤ k → WritesRange (limit k) (rowOf n .operation)
 unfolding rowOf
-row-range k n h =
-    all-rows (λ r. WritesRange (limit k) (r .operation)) rows (n - 1) _
+row-range k zero h = tt
+row-range k (suc n) h =
+    all-rows (λ r. WritesRange (limit k) (r .operation)) rows n _
     (rows-range k (limit k) (omega (arith, limit-low h)) (limit-double (omega arith))) tt
 
 -- LISTS OF VALUES

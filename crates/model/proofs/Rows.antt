@@ -1,5 +1,5 @@
 -- A rule of the table of instructions by one test that is computed over all rows, and the numbers at which names are found. Assumes nothing.
-use Prim.Native.Nat.{ℕ, zero, suc, _+_, _-_, _≤_, _<_}
+use Prim.Native.Nat.{ℕ, zero, suc, _+_, _≤_, _<_}
 use mathlib.Core.Path.{_≡_, refl}
 use mathlib.Core.Bool.{Bool, true, false, _&&_}
 use mathlib.Core.List.{List, [], _∷_}
@@ -22,7 +22,14 @@ passes f (r ∷ rs) (suc n) d h k = passes f rs n d (both (f r) (allRows f rs) h
 -- So does the row of every number; what is no instruction's has NOP's, at place 43.
 pub row-rule : (f : Row → Bool) → allRows f rows ≡ true → (n : ℕ) → f (rowOf n) ≡ true
 unfolding rowOf
-row-rule f h n = passes f rows (n - 1) _ h (λ l. passes f rows 43 (rowOf 44) h (λ k. absurd (omega arith)))
+row-rule f h n = go n
+  where
+    nop : f (rowOf 44) ≡ true
+    nop = passes f rows 43 (rowOf 44) h (λ k. absurd (omega arith))
+
+    go : (k : ℕ) → f (rowOf k) ≡ true
+    go zero = nop
+    go (suc k) = passes f rows k _ h (λ l. nop)
 
 -- What is found among n names that count from k.
 abbrev Found : (k n x : ℕ) → Type 0

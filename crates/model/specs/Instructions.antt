@@ -1,5 +1,5 @@
 -- Document 01, "Instructions" and "Costs": the 54 instructions as rows.
-use Prim.Native.Nat.{ℕ, _+_, _*_, _-_}
+use Prim.Native.Nat.{ℕ, zero, suc, _+_, _*_}
 use Prim.Native.String.{String}
 use mathlib.Core.Bool.{Bool, true, false, not, _&&_, _||_, xor, cond}
 use mathlib.Core.List.{List, [], _∷_}
@@ -157,9 +157,10 @@ rows =
     ∷ shift "ASR" shiftRightSigned
     ∷ []
 
--- The row of an instruction's number. A head that is none, which no fit image has, gets NOP's.
+-- The row of an instruction's number. A head that is none (0 or above 54), which no fit image has, gets NOP's.
 unfoldable pub rowOf : ℕ → Row
-rowOf n = getD rows (n - 1) nop
+rowOf zero = nop
+rowOf (suc n) = getD rows n nop
 
 -- 1 for a direct argument.
 abbrev pub isDirect : ℕ → ℕ

@@ -154,8 +154,12 @@ values-none p n a b d = go (decLt 54 n)
     test : ℕ → Bool
     test k = eqb k 3 || (eqb k 4 || (eqb k 6 || eqb (valueCount p (rowOf k .operation)) 0))
 
+    over : (k : ℕ) → 54 < k → valueCount p (rowOf k .operation) ≡ 0
+    over zero l = absurd (omega arith)
+    over (suc k) l = ap (λ (r : Row). valueCount p (r .operation)) (List·getD-eq-default rows _ {n = k} (omega arith))
+
     go : Dec (54 < n) → valueCount p (rowOf n .operation) ≡ 0
-    go (yes l) = ap (λ (r : Row). valueCount p (r .operation)) (List·getD-eq-default rows _ {n = n - 1} (omega arith))
+    go (yes l) = over n l
     go (no l) = eqb-true _ _ (rw (ne-eqb n 3 a, ne-eqb n 4 b, ne-eqb n 6 d) at (at-number test 0 55 n refl (omega arith) (omega arith)))
 
 -- The values that a step writes are as many.
