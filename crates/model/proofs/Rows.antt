@@ -1,13 +1,21 @@
 -- A rule of the table of instructions by one test that is computed over all rows, and the numbers at which names are found. Assumes nothing.
 use Prim.Native.Nat.{ℕ, zero, suc, _+_, _≤_, _<_}
-use mathlib.Core.Path.{_≡_, refl}
+use mathlib.Core.Path.{_≡_, refl, ap, _∙_}
 use mathlib.Core.Bool.{Bool, true, false, _&&_}
 use mathlib.Core.List.{List, [], _∷_}
+use mathlib.Core.Logic.{_⊎_, inl, inr}
 use native.Mathlib.Omega.{arith}
-use lib.ListN.{getD, length}
+use lib.ListN.{getD, length, List·getD-eq-default}
 use Rattle.model.specs.Instructions.{Row, rows, rowOf}
 use Rattle.model.specs.Load.{sameWord, lookupFrom, names, lookup}
 use Rattle.model.proofs.Fits.{both}
+
+-- The row of a number that is no instruction's is NOP's.
+pub none-is-nop : (n : ℕ) → (n ≡ 0) ⊎ (length rows < n) → rowOf n ≡ rowOf 44
+unfolding rowOf
+none-is-nop zero h = refl
+none-is-nop (suc n) (inl e) = absurd (omega arith)
+none-is-nop (suc n) (inr l) = List·getD-eq-default rows _ {n = n} (omega arith)
 
 -- All rows pass a test.
 abbrev pub allRows : (Row → Bool) → List Row → Bool
@@ -19,7 +27,7 @@ passes f [] n d h k = k (omega arith)
 passes f (r ∷ rs) zero d h k = both (f r) (allRows f rs) h .0
 passes f (r ∷ rs) (suc n) d h k = passes f rs n d (both (f r) (allRows f rs) h .1) (λ l. k (omega arith))
 
--- So does the row of every number; what is no instruction's has NOP's, at place 43.
+-- So does the row of every number.
 pub row-rule : (f : Row → Bool) → allRows f rows ≡ true → (n : ℕ) → f (rowOf n) ≡ true
 unfolding rowOf
 row-rule f h n = go n
@@ -28,7 +36,7 @@ row-rule f h n = go n
     nop = passes f rows 43 (rowOf 44) h (λ k. absurd (omega arith))
 
     go : (k : ℕ) → f (rowOf k) ≡ true
-    go zero = nop
+    go zero = ap f (none-is-nop 0 (inl refl)) ∙ nop
     go (suc k) = passes f rows k _ h (λ l. nop)
 
 -- What is found among n names that count from k.
