@@ -1,15 +1,18 @@
 -- What start and grant hand back, by their checks and by the run. Assumes nothing.
 use Prim.Native.Nat.{ℕ, zero, suc, _+_, _-_}
+use mathlib.Core.Bool.{cond}
 use mathlib.Core.List.{List, []}
 use mathlib.Core.Path.{_≡_, refl, sym, ap, _∙_}
 use native.Mathlib.Omega.{arith}
+use lib.Dec.{eqb}
 use lib.IntN.{ℤ, pos}
 use lib.ListN.{length, replicate}
+use Rattle.model.proofs.Endings.{grant-word}
 use Rattle.model.proofs.Fits.{start-accepted, GrantFits, grant-accepted}
 use Rattle.model.proofs.GrantKeeps.{AccountSound, record-sound, started-accepted}
 use Rattle.model.proofs.Lists as lists
 use Rattle.model.proofs.Refusals.{start-refused, grant-refused, grant-number}
-use Rattle.model.specs.Calls.{freshRecord, zeroRecord, startChecks, Started, accountOf, recordOf, Granted, granted, grantedBy, grantRefusal, outcomeNumber}
+use Rattle.model.specs.Calls.{freshRecord, zeroRecord, startChecks, Started, accountOf, recordOf, Granted, granted, grantedBy, grantRefusal, outcomeNumber, outcomeWord, stopWord}
 use Rattle.model.specs.Grants.{Call, Account, accept, handBack}
 use Rattle.model.specs.Parameters.{refusalOf, limit}
 use Rattle.model.specs.Step.{Environment, State, Tak, environmentOf}
@@ -61,6 +64,11 @@ module _ (image input : List ℕ) (rec : Record) (cycles : ℕ) (registers cells
   abbrev call : Call
   call = record { cycles = cycles; slice = out }
 
+  -- The word of what a grant hands back.
+  abbrev wordOf : Granted → List ℕ
+  wordOf g =
+      cond (eqb (grantRefusal e account call) 0) (stopWord e (accountOf (g .reply .rec) (g .registers) (g .cells)) (length out - g .reply .values)) []
+
   promised : {r : GrantReply} {registers′ cells′ out′ : List ℤ} →
       record { reply = r; registers = registers′; cells = cells′; slice = out′ } ≡ granted image input rec registers cells call →
       GrantIs image input rec cycles registers cells out r registers′ cells′ out′
@@ -68,6 +76,7 @@ module _ (image input : List ℕ) (rec : Record) (cycles : ℕ) (registers cells
       record {
         reply = ap (λ (g : Granted). g .reply) x;
         number = ap (λ (g : Granted). outcomeNumber (g .reply .outcome)) x ∙ grant-number image input rec registers cells call;
+        word = ap (λ (g : Granted). outcomeWord (g .reply .outcome)) x ∙ grant-word image input rec registers cells call ∙ ap wordOf (sym x);
         registers = ap (λ (g : Granted). g .registers) x;
         cells = ap (λ (g : Granted). g .cells) x;
         slice = ap (λ (g : Granted). g .slice) x;

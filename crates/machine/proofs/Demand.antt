@@ -5,6 +5,7 @@ use mathlib.Core.List.{List, [], _∷_}
 use mathlib.Core.Path.{_≡_, refl, sym, ap, _∙_}
 use lib.IntN.{ℤ}
 use Rattle.model.proofs.Demand.{demand3}
+use Rattle.model.proofs.Endings.{grant-word}
 use Rattle.model.proofs.Refusals.{start-number, grant-number}
 use Rattle.model.specs.Calls.{started, Granted, granted}
 use Rattle.model.specs.Demand.{Held, heldAfterStart, gives, leaves, Demand3}
@@ -36,7 +37,15 @@ module _ (image input : List ℕ) where
   unfolding gives leaves
   some-chain h [] = nothing
   some-chain h (c ∷ cs) =
-      called (record { reply = refl; number = grant-number image input (h .rec) (h .registers) (h .cells) c; registers = refl; cells = refl; slice = refl })
+      called
+      (record {
+        reply = refl;
+        number = grant-number image input (h .rec) (h .registers) (h .cells) c;
+        word = grant-word image input (h .rec) (h .registers) (h .cells) c;
+        registers = refl;
+        cells = refl;
+        slice = refl;
+      })
       (some-chain _ cs)
 
 -- DEMAND 3. "A list of grants starts from the record and memory that an accepted start with the list's image left."

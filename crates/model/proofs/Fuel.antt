@@ -40,6 +40,27 @@ module _ (M : Machine) (priced : Priced M) (granted room : ℕ) where
           let paid = goes-paid a h in
           loop-goes M granted room n a h ∙ ih (omega arith) (omega arith) ∙ sym (loop-goes M granted room k a h)
 
+  -- A loop stops where the look has its ending.
+  loop-looks : (n : ℕ) (a : Standing St) → granted - a .spent < n →
+      lookFrom (loop M granted room n a .at) ≡ stops (loop M granted room n a .ending)
+  unfolding advance
+  loop-looks zero a l = absurd (omega arith)
+  loop-looks (suc n) a l = go (lookFrom a) refl (loop-looks n (advance M a))
+    where
+      go : (v : Look) → lookFrom a ≡ v →
+          (granted - (a .spent + cost (a .state)) < n →
+          lookFrom (loop M granted room n (advance M a) .at) ≡ stops (loop M granted room n (advance M a) .ending)) →
+          lookFrom (loop M granted room (suc n) a .at) ≡ stops (loop M granted room (suc n) a .ending)
+      go (stops e) h ih = rw (loop-stops M granted room n a e h) h
+      go goes h ih =
+          let paid = goes-paid a h in
+          rw (loop-goes M granted room n a h) (ih (omega arith))
+
+  -- So does a run.
+  pub run-looks : (a : Standing St) → lookFrom (run M granted room a .at) ≡ stops (run M granted room a .ending)
+  unfolding run
+  run-looks a = loop-looks _ a (le-refl _)
+
   -- What a reader may take for its definition: look; stop, or step and go on.
   pub run-law : (a : Standing St) → run M granted room a ≡ elim (lookFrom a) [ stops e ↦ record { ending = e; at = a } | goes ↦ run M granted room (advance M a) ]
   unfolding run advance

@@ -14,4 +14,5 @@ pub mod Fuel
 pub mod Lists
 pub mod Demand
 pub mod Refusals
+pub mod Endings
 pub mod Marked

@@ -1,6 +1,6 @@
 -- Document 01, "Replies of each call": start, grant and the decimal writer. Load's stand in Load.antt.
-use Prim.Native.Nat.{ℕ, zero, suc, _+_}
-use mathlib.Core.Bool.{Bool, true, _&&_, cond}
+use Prim.Native.Nat.{ℕ, zero, suc, _+_, _-_}
+use mathlib.Core.Bool.{Bool, true, not, _&&_, _||_, cond}
 use mathlib.Core.List.{List, [], _∷_, _++_}
 use lib.Dec.{eqb, ltb, leb}
 use lib.IntN.{ℤ, pos, _-ℤ_}
@@ -17,10 +17,11 @@ use Rattle.model.specs.declared.GrantReply.{GrantReply}
 use Rattle.model.specs.declared.DecimalReply.{DecimalReply}
 use Rattle.model.specs.Parameters.{Check, _unless_, refusalOf, parameterChecks, limit, inRange}
 use Rattle.model.specs.Numbers.{bytes, decimal}
+use Rattle.model.specs.Words.{isEmpty}
 use Rattle.model.specs.Load.{lengthCheck}
 use Rattle.model.specs.Images.{imageFits}
 use Rattle.model.specs.Grants.{Call, Account, Result, grant}
-use Rattle.model.specs.Step.{Environment, State, Tak}
+use Rattle.model.specs.Step.{Environment, State, currentCell, stepCost, stepValues, Tak}
 
 -- "Start makes the fresh record (all 0 but SHR = B-1) with its parameters".
 abbrev pub freshRecord : Parameters → Record
@@ -148,6 +149,22 @@ endingWord Failed = bytes "FAILED"
 endingWord Ended = bytes "ENDED"
 endingWord Paused = bytes "PAUSED"
 endingWord OutputFull = bytes "OUTPUT FULL"
+
+-- That of an outcome; a refusal has none.
+unfoldable pub outcomeWord : Outcome → List ℕ
+outcomeWord (Refused k) = []
+outcomeWord (Stopped e) = endingWord e
+
+-- The word of the ending that holds at a state, by the state alone: "it looks, in order: IRCR not 0, it ends "failed"; IAR = T or an empty cell,
+-- "ended"; granted - spent below the cost, "paused"; room in the output slice below the values the step writes, "output full"".
+unfoldable pub stopWord : Environment → Account State → (room : ℕ) → List ℕ
+stopWord e a room =
+    let s = a .state in
+    cond (not (eqb (s .ircr) 0)) (bytes "FAILED")
+    (cond (eqb (s .iar) (e .parameters .t) || isEmpty (currentCell e s)) (bytes "ENDED")
+    (cond (ltb (a .granted - a .spent) (stepCost e s)) (bytes "PAUSED")
+    (cond (ltb room (length (stepValues e s))) (bytes "OUTPUT FULL")
+    [])))
 
 -- What the decimal writer hands back, and the bytes after it.
 pub record Spelled : Type 0 where
