@@ -1,8 +1,8 @@
 -- The refusals of start and grant, check by check. Assumes nothing.
 use Prim.Native.Nat.{ℕ, _*_, _≤_, _<_}
 use mathlib.Core.Bool.{true, false, _&&_}
-use mathlib.Core.List.{List, [], _∷_}
-use mathlib.Core.Path.{_≡_, sym, _∙_}
+use mathlib.Core.List.{List, [], _∷_, _++_, append-assoc}
+use mathlib.Core.Path.{_≡_, sym, ap, _∙_}
 use lib.Dec.{eqb, leb}
 use lib.IntN.{ℤ}
 use lib.ListN.{length}
@@ -31,14 +31,16 @@ module _ (p : Parameters) (image : List ℕ) (registers cells : List ℤ) where
       ∷ 10 unless (imageFits p image)
       ∷ []
 
-  pub by-parameters : {r : ℕ} → r ≡ refusalOf (parameterChecks p) → ¬ (r ≡ 0) → r ≡ startRefusal
+  split : startRefusal ≡ refusalOf (parameterChecks p ++ lengthsAndImage)
   unfolding startChecks
-  by-parameters e h = e ∙ sym (refusal-first (parameterChecks p) lengthsAndImage (λ q. h (e ∙ q)))
+  split = ap refusalOf (append-assoc (parameterChecks p) _ _)
+
+  pub by-parameters : {r : ℕ} → r ≡ refusalOf (parameterChecks p) → ¬ (r ≡ 0) → r ≡ startRefusal
+  by-parameters e h = e ∙ sym (split ∙ refusal-first (parameterChecks p) lengthsAndImage (λ q. h (e ∙ q)))
 
   module _ (fit : Fit p) where
     behind : startRefusal ≡ refusalOf lengthsAndImage
-    unfolding startChecks
-    behind = refusal-later (parameterChecks p) lengthsAndImage (all-fit (parameterChecks p) (parameters-numbered p) fit)
+    behind = split ∙ refusal-later (parameterChecks p) lengthsAndImage (all-fit (parameterChecks p) (parameters-numbered p) fit)
 
     pub by-length : ¬ (length image ≡ 4 * p .t) → 6 ≡ startRefusal
     by-length h = sym (behind ∙ rw (ne-eqb _ _ h))

@@ -1,4 +1,5 @@
--- Refusal 10, "an image that no text yields under the loading rules": exactly the images that fail the test on cells. Assumes nothing.
+-- Refusal 10, "an image that no text yields under the loading rules": exactly the images that fail the test on cells; and when a list of
+-- checks gives it. Assumes nothing.
 use Prim.Native.Nat.{ℕ, zero, suc, _*_, _-_, _≤_}
 use mathlib.Core.Path.{_≡_, refl, _∙_}
 use mathlib.Core.Bool.{Bool, true, false, cond}
@@ -6,16 +7,18 @@ use mathlib.Core.List.{List, [], _∷_, _++_}
 use mathlib.Core.Logic.{_↔_}
 use native.Mathlib.Omega.{arith}
 use lib.Dec.{leb}
+use lib.IntN.{ℤ}
 use lib.ListN.{length, take, replicate, length-replicate}
 use borrow.Author.Tests.{leb-true}
 use Rattle.model.specs.declared.Parameters.{Parameters}
 use Rattle.model.specs.declared.LoadReply.{LoadReply}
 use Rattle.model.specs.declared.LoadReply.the-variants.{Accepted, Refused}
-use Rattle.model.specs.Parameters.{Fit}
+use Rattle.model.specs.Parameters.{Check, _unless_, refusalOf, Fit}
 use Rattle.model.specs.Words.{Cell, cellWords}
 use Rattle.model.specs.Load.{lines, Checked, fine, fault, words, lineOf, linesReply, linesWords, textReply, imageOf}
+use Rattle.model.specs.Calls.{sizeChecks}
 use Rattle.model.specs.Images.{Yields, NoTextYields, cellFits, allZero, cellsFit, imageFits}
-use Rattle.model.proofs.Fits.{and-both, Limits, limits}
+use Rattle.model.proofs.Fits.{and-both, Numbered, all-fit, lacks, only-number, Limits, limits, sizes-numbered, sizes-lack, sizes-fit}
 use Rattle.model.proofs.Cells.{zero-take, zero-empty}
 use Rattle.listing.specs.Listing.{listing}
 use Rattle.listing.proofs.Lines.{full-cell, line-fits}
@@ -80,3 +83,53 @@ module _ (p : Parameters) (fit : Fit p) (image : List ℕ) (size : length image 
       go : (b : Bool) → imageFits p image ≡ b → NoTextYields p image → b ≡ false
       go true e n = absurd (n (listing p image) (listing-loads p image size e))
       go false e n = refl
+
+-- LISTS OF CHECKS in which 10 stands once, behind checks that see to the parameters and the image's length.
+module _ (p : Parameters) (image : List ℕ) (earlier later : List Check) (numbered : Numbered earlier)
+    (before : lacks 10 earlier ≡ true) (after : lacks 10 later ≡ true)
+    (sized : refusalOf earlier ≡ 0 → Fit p × (length image ≡ 4 * p .t)) where
+  abbrev number : ℕ
+  number = refusalOf (earlier ++ (10 unless (imageFits p image) ∷ later))
+
+  by-cells : (number ≡ 10) ↔ ((refusalOf earlier ≡ 0) × (imageFits p image ≡ false))
+  by-cells = only-number 10 (imageFits p image) later (omega arith) after earlier numbered before
+
+  -- 10 is given exactly where the checks before it pass and no text yields the image.
+  pub gives-10 : (number ≡ 10) ↔ ((refusalOf earlier ≡ 0) × NoTextYields p image)
+  gives-10 = (there, back)
+    where
+      there : number ≡ 10 → (refusalOf earlier ≡ 0) × NoTextYields p image
+      there e =
+          let t = by-cells .0 e in
+          let s = sized (t .0) in
+          (t .0, no-text-yields p (s .0) image (s .1) .0 (t .1))
+
+      back : (refusalOf earlier ≡ 0) × NoTextYields p image → number ≡ 10
+      back t =
+          let s = sized (t .0) in
+          by-cells .1 (t .0, no-text-yields p (s .0) image (s .1) .1 (t .1))
+
+  -- So where they pass and it is not given, some text does.
+  pub unless-10 : refusalOf earlier ≡ 0 → ¬ (number ≡ 10) → (text : List ℕ) × Yields p text image
+  unless-10 h n = go (imageFits p image) refl
+    where
+      go : (b : Bool) → imageFits p image ≡ b → (text : List ℕ) × Yields p text image
+      go true e = some-text-yields p (sized h .0) image (sized h .1) .0 e
+      go false e = absurd (n (by-cells .1 (h, e)))
+
+-- Those that begin "1..6; 9 ..; 10", as start's and grant's do.
+module _ (p : Parameters) (image : List ℕ) (registers cells : List ℤ) (later : List Check) (after : lacks 10 later ≡ true) where
+  abbrev sizes : List Check
+  sizes = sizeChecks p image registers cells
+
+  passed : refusalOf sizes ≡ 0 → Fit p × (length image ≡ 4 * p .t)
+  passed h =
+      let s = sizes-fit p image registers cells (all-fit sizes (sizes-numbered p image registers cells) h) in
+      (s .0, s .1)
+
+  pub sized-gives-10 : (refusalOf (sizes ++ (10 unless (imageFits p image) ∷ later)) ≡ 10) ↔ ((refusalOf sizes ≡ 0) × NoTextYields p image)
+  sized-gives-10 = gives-10 p image sizes later (sizes-numbered p image registers cells) (sizes-lack p image registers cells) after passed
+
+  pub sized-unless-10 : refusalOf sizes ≡ 0 → ¬ (refusalOf (sizes ++ (10 unless (imageFits p image) ∷ later)) ≡ 10) →
+      (text : List ℕ) × Yields p text image
+  sized-unless-10 = unless-10 p image sizes later (sizes-numbered p image registers cells) (sizes-lack p image registers cells) after passed

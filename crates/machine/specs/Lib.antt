@@ -1,2 +1,3 @@
 pub mod Contracts
 pub mod Chains
+pub mod Refusal10

@@ -1,21 +1,22 @@
 -- What passed checks say: of the parameters (1 to 5), of start and of grant. Assumes nothing.
 use Prim.Native.Nat.{ℕ, suc, _+_, _*_, _-_, _^_, _≤_}
 use mathlib.Core.Path.{_≡_, refl, sym, ap, _∙_}
-use mathlib.Core.Bool.{Bool, true, false, _&&_, cond, and-eq-true-iff}
+use mathlib.Core.Bool.{Bool, true, false, not, _&&_, cond, and-eq-true-iff}
 use mathlib.Core.List.{List, [], _∷_, _++_}
+use mathlib.Core.Logic.{_↔_}
 use native.Mathlib.Nat.{pow-succ'}
 use native.Mathlib.Omega.{arith}
 use lib.Dec.{eqb, leb}
 use lib.IntN.{ℤ}
 use lib.ListN.{length}
 use lib.Pow.{pow-mono}
-use borrow.Author.Tests.{leb-true, eqb-true}
+use borrow.Author.Tests.{leb-true, eqb-true, eq-eqb}
 use Rattle.model.specs.declared.Parameters.{Parameters}
-use Rattle.model.specs.Parameters.{Check, refusalOf, between, limit, parameterChecks, Fit}
+use Rattle.model.specs.Parameters.{Check, _unless_, refusalOf, between, limit, parameterChecks, Fit}
 use Rattle.model.specs.Images.{imageFits}
 use Rattle.model.specs.Grants.{Account, Call}
 use Rattle.model.specs.Step.{Environment, State}
-use Rattle.model.specs.Calls.{startChecks, recordFits, grantChecks, grantRefusal}
+use Rattle.model.specs.Calls.{sizeChecks, startChecks, recordFits, grantChecks, grantRefusal}
 
 -- Two tests that passed, and back.
 pub both : (a b : Bool) → (a && b) ≡ true → (a ≡ true) × (b ≡ true)
@@ -81,6 +82,51 @@ fit-right (x ∷ xs) ys f = fit-right xs ys (f .1)
 pub numbered-append : (xs ys : List Check) → Numbered xs → Numbered ys → Numbered (xs ++ ys)
 numbered-append [] ys n k = k
 numbered-append (x ∷ xs) ys n k = (n .0, numbered-append xs ys (n .1) k)
+
+-- No check has the number n.
+abbrev pub lacks : ℕ → List Check → Bool
+lacks n [] = true
+lacks n (c ∷ cs) = not (eqb (c .number) n) && lacks n cs
+
+other-number : (m n : ℕ) → not (eqb m n) ≡ true → ¬ (m ≡ n)
+other-number m n h e =
+    let q : false ≡ true = rw (eq-eqb m n e) at h in
+    let z : _≡_ {A = ℕ} 0 1 = cc in
+    omega arith
+
+not-given : (n : ℕ) (cs : List Check) → 1 ≤ n → lacks n cs ≡ true → ¬ (refusalOf cs ≡ n)
+not-given n [] l h e = omega arith
+not-given n (c ∷ cs) l h e = go (c .fit) e (not-given n cs l (k .1))
+  where
+    k : (not (eqb (c .number) n) ≡ true) × (lacks n cs ≡ true)
+    k = both (not (eqb (c .number) n)) (lacks n cs) h
+
+    go : (b : Bool) → cond b (refusalOf cs) (c .number) ≡ n → ¬ (refusalOf cs ≡ n) → ⊥
+    go true e ih = ih e
+    go false e ih = other-number (c .number) n (k .0) e
+
+-- A number that one check alone has is given exactly where the checks before that one pass and it does not.
+module _ (n : ℕ) (b : Bool) (later : List Check) (l : 1 ≤ n) (after : lacks n later ≡ true) where
+  given : (earlier : List Check) → lacks n earlier ≡ true → refusalOf (earlier ++ (n unless b ∷ later)) ≡ n → AllFit earlier × (b ≡ false)
+  given [] h e = (tt, go b e)
+    where
+      go : (f : Bool) → cond f (refusalOf later) n ≡ n → f ≡ false
+      go true e = absurd (not-given n later l after e)
+      go false e = refl
+  given (c ∷ cs) h e = go (c .fit) refl e (given cs (k .1))
+    where
+      k : (not (eqb (c .number) n) ≡ true) × (lacks n cs ≡ true)
+      k = both (not (eqb (c .number) n)) (lacks n cs) h
+
+      go : (f : Bool) → c .fit ≡ f → cond f (refusalOf (cs ++ (n unless b ∷ later))) (c .number) ≡ n →
+          (refusalOf (cs ++ (n unless b ∷ later)) ≡ n → AllFit cs × (b ≡ false)) → AllFit (c ∷ cs) × (b ≡ false)
+      go true q e ih = let t = ih e in ((q, t .0), t .1)
+      go false q e ih = absurd (other-number (c .number) n (k .0) e)
+
+  pub only-number : (earlier : List Check) → Numbered earlier → lacks n earlier ≡ true →
+      (refusalOf (earlier ++ (n unless b ∷ later)) ≡ n) ↔ ((refusalOf earlier ≡ 0) × (b ≡ false))
+  only-number earlier numbered before =
+      (λ e. (let t = given earlier before e in (no-refusal earlier (t .0), t .1)), λ t. refusal-later earlier _ (all-fit earlier numbered (t .0)) ∙ rw (t .1))
 
 -- THE PARAMETERS
 pub record Limits (p : Parameters) : Type 0 where
@@ -151,22 +197,33 @@ pub record StartFits (p : Parameters) (image : List ℕ) (registers cells : List
   pub image-fits : imageFits p image ≡ true
 
 module _ (p : Parameters) (image : List ℕ) (registers cells : List ℤ) where
+  abbrev sizes : List Check
+  sizes = sizeChecks p image registers cells
+
+  pub sizes-numbered : Numbered sizes
+  sizes-numbered = numbered-append (parameterChecks p) _ (parameters-numbered p) (omega arith)
+
+  -- 10 is not among them.
+  pub sizes-lack : lacks 10 sizes ≡ true
+  unfolding parameterChecks
+  sizes-lack = refl
+
+  pub sizes-fit : AllFit sizes → Fit p × (length image ≡ 4 * p .t) × (length registers ≡ p .n) × (length cells ≡ p .s)
+  sizes-fit f =
+      let g = fit-right (parameterChecks p) _ f in
+      let k = both (eqb (length registers) (p .n)) (eqb (length cells) (p .s)) (g .1 .0) in
+      let fit = no-refusal (parameterChecks p) (fit-left (parameterChecks p) _ f) in
+      (fit, eqb-true (length image) (4 * p .t) (g .0), eqb-true (length registers) (p .n) (k .0), eqb-true (length cells) (p .s) (k .1))
+
   pub start-numbered : Numbered (startChecks p image registers cells)
   unfolding startChecks
-  start-numbered = numbered-append (parameterChecks p) _ (parameters-numbered p) (omega arith)
+  start-numbered = numbered-append sizes _ sizes-numbered (omega arith)
 
   pub start-fit : AllFit (startChecks p image registers cells) → StartFits p image registers cells
   unfolding startChecks
   start-fit f =
-      let g = fit-right (parameterChecks p) _ f in
-      let k = both (eqb (length registers) (p .n)) (eqb (length cells) (p .s)) (g .1 .0) in
-      record {
-        fit = no-refusal (parameterChecks p) (fit-left (parameterChecks p) _ f);
-        image-length = eqb-true (length image) (4 * p .t) (g .0);
-        register-count = eqb-true (length registers) (p .n) (k .0);
-        cell-count = eqb-true (length cells) (p .s) (k .1);
-        image-fits = g .1 .1 .0;
-      }
+      let s = sizes-fit (fit-left sizes _ f) in
+      record { fit = s .0; image-length = s .1; register-count = s .2; cell-count = s .3; image-fits = fit-right sizes _ f .0 }
 
   pub start-accepted : refusalOf (startChecks p image registers cells) ≡ 0 → StartFits p image registers cells
   start-accepted h = start-fit (all-fit (startChecks p image registers cells) start-numbered h)

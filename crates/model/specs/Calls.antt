@@ -32,14 +32,14 @@ abbrev pub zeroRecord : Record
 zeroRecord =
     record { parameters = record { k = 0; n = 0; s = 0; b = 0; t = 0 }; iar = 0; ircr = 0; shr = pos 0; place = 0; granted = 0; spent = 0 }
 
--- "Start: 1..6; 9 register or data slice of another length; 10 an image that no text yields".
+-- "1..6; 9 register or data slice of another length": what comes before 10.
+abbrev pub sizeChecks : Parameters → (image : List ℕ) (registers cells : List ℤ) → List Check
+sizeChecks p image registers cells =
+    parameterChecks p ++ (lengthCheck p image ∷ 9 unless (eqb (length registers) (p .n) && eqb (length cells) (p .s)) ∷ [])
+
+-- "Start: 1..6; 9 ..; 10 an image that no text yields".
 unfoldable pub startChecks : Parameters → (image : List ℕ) (registers cells : List ℤ) → List Check
-startChecks p image registers cells =
-    parameterChecks p ++ (
-    lengthCheck p image
-    ∷ 9 unless (eqb (length registers) (p .n) && eqb (length cells) (p .s))
-    ∷ 10 unless (imageFits p image)
-    ∷ [])
+startChecks p image registers cells = sizeChecks p image registers cells ++ (10 unless (imageFits p image) ∷ [])
 
 -- What start hands back, and the two slices after it.
 pub record Started : Type 0 where
