@@ -2,3 +2,4 @@ pub mod Narrow
 pub mod CallLaws
 pub mod Exact
 pub mod Demand
+pub mod Refusal10
