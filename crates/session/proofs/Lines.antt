@@ -1,6 +1,6 @@
 -- The answers of `begin`, `open`, `finish` and `run_grant`, from what the calls under them promise. Assumes nothing.
 use Prim.Native.Nat.{ℕ, zero, suc, _+_, _*_, _≤_}
-use mathlib.Core.Bool.{true, false}
+use mathlib.Core.Bool.{true, false, false≢true}
 use mathlib.Core.List.{List, [], _∷_, _++_}
 use mathlib.Core.Path.{_≡_, refl, sym, ap, _∙_}
 use mathlib.Core.Logic.{⊎-elim}
@@ -50,13 +50,13 @@ module _ (p : Parameters) (image : List ℕ) (registers₀ cells₀ : List ℤ) 
   number = ap (λ (x : StartReply). x .refusal) (is .reply)
 
   pub not-begun : ¬ (s .refusal ≡ 0) → {lines₁ : List ℕ} {r : ℕ} → Put lines₀ 0 (refusalLine (s .refusal) 0) lines₁ r →
-      BeginIs p image registers₀ cells₀ lines₀ (record { count = r; more = false; rec = s .rec; cycles = 1_000_000_000 }) registers₁ cells₁ lines₁
+      BeginIs p image registers₀ cells₀ lines₀ (record { count = r; more = false; rec = s .rec; cycles = 0 }) registers₁ cells₁ lines₁
   not-begun h put =
       record {
         shows = shown (refusalLine (s .refusal) 0) (start-line (s .refusal) h ∙ ap startLine number) put;
         more = sym (ne-eqb (started p image registers₀ cells₀ .reply .refusal) 0 (λ e. h (number ∙ e)));
         rec = ap (λ (x : StartReply). x .rec) (is .reply);
-        cycles = refl;
+        cycles = λ e. absurd (false≢true e);
         registers = is .registers;
         cells = is .cells;
       }
@@ -69,7 +69,7 @@ module _ (p : Parameters) (image : List ℕ) (registers₀ cells₀ : List ℤ) 
         shows = rw none (record { count = refl; lines = refl });
         more = sym (eq-eqb (started p image registers₀ cells₀ .reply .refusal) 0 none);
         rec = ap (λ (x : StartReply). x .rec) (is .reply);
-        cycles = refl;
+        cycles = λ e. refl;
         registers = is .registers;
         cells = is .cells;
       }

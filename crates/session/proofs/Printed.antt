@@ -241,13 +241,14 @@ module _ (par text input : List ℕ) where
               let same = same-reply n e q in
               let none = eqb-true (started p image₁ registers cells .reply .refusal) 0 (sym (b .more) ∙ more) in
               let number = ap (λ (x : StartReply). x .refusal) (sym (same .reply)) ∙ none in
+              let first = b .cycles more in
               let fresh = b .rec ∙ start-fresh p image₁ registers cells none in
               let spent = ap (λ (x : Record). x .spent) fresh in
               let given = ap (λ (x : Record). x .granted) fresh in
-              let lines = grants-print image₁ input chain size 1_000_000_001 (omega (arith, b .cycles, spent, given)) in
+              let lines = grants-print image₁ input chain size 1_000_000_001 (omega (arith, first, spent, given)) in
               let rec = b .rec ∙ ap (λ (x : StartReply). x .rec) (same .reply) in
               let memory = same .memory none in
-              let all = rw (q, b .cycles, rec, b .registers ∙ memory .0, b .cells ∙ memory .1) at lines in
+              let all = rw (q, first, rec, b .registers ∙ memory .0, b .cells ∙ memory .1) at lines in
               ap (λ (front : List ℕ). front ++ out) (shows-text (b .shows) ∙ ap startLine none)
               ∙ all
               ∙ sym (start-goes (imageOf p text) input begun number)

@@ -37,7 +37,7 @@ module _ (p : Parameters) (image : List ℕ) (registers₀ cells₀ : List ℤ) 
     pub more : r .more ≡ eqb (begun .reply .refusal) 0
     pub rec : r .rec ≡ begun .reply .rec
     -- "grants 10^9 once"
-    pub cycles : r .cycles ≡ 1_000_000_000
+    pub cycles : r .more ≡ true → r .cycles ≡ 1_000_000_000
     pub registers : registers₁ ≡ begun .registers
     pub cells : cells₁ ≡ begun .cells
 

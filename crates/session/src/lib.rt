@@ -1,4 +1,5 @@
 // What takrun does with the contents of its files: load and start, then a grant at a time, with the lines that it prints.
+ghost use mathlib.Core.Bool.{true, false};
 ghost use mathlib.Core.Path.{_≡_};
 ghost use Prim.Native.Nat.{_+_, _≤_};
 ghost use lib.ListN.{length};
@@ -26,6 +27,30 @@ pub struct Report {
     pub cycles: u64,
 }
 
+// Lines behind which nothing follows.
+fn stop_after(count: usize, rec: Record) -> Report
+    ensures { λ r. ⌜ r ≡ record { count = count; more = false; rec = rec; cycles = 0 } ⌝ }
+{
+    Report {
+        count,
+        more: false,
+        rec,
+        cycles: 0,
+    }
+}
+
+// Lines behind which a grant follows.
+fn grant_after(count: usize, rec: Record, cycles: u64) -> Report
+    ensures { λ r. ⌜ r ≡ record { count = count; more = true; rec = rec; cycles = cycles } ⌝ }
+{
+    Report {
+        count,
+        more: true,
+        rec,
+        cycles,
+    }
+}
+
 // Start; the first grant is of 10^9 cycles.
 fn begin(
     p: Parameters,
@@ -41,19 +66,9 @@ fn begin(
     let started = start(p, image, registers, cells);
     let rec = started.rec;
     if started.refusal != 0 {
-        return Report {
-            count: put_refusal(started.refusal, 0, lines, 0),
-            more: false,
-            rec,
-            cycles: Record::MAX_GRANT,
-        };
+        return stop_after(put_refusal(started.refusal, 0, lines, 0), rec);
     }
-    Report {
-        count: 0,
-        more: true,
-        rec,
-        cycles: Record::MAX_GRANT,
-    }
+    grant_after(0, rec, Record::MAX_GRANT)
 }
 
 // Load, then start.
@@ -72,12 +87,9 @@ pub fn open(
 {
     let loaded = load(p, text, image);
     match loaded {
-        LoadReply::Refused(number, index) => Report {
-            count: put_refusal(number, index, lines, 0),
-            more: false,
-            rec: Record::fresh(p),
-            cycles: Record::MAX_GRANT,
-        },
+        LoadReply::Refused(number, index) => {
+            stop_after(put_refusal(number, index, lines, 0), Record::fresh(p))
+        }
         LoadReply::Accepted(_) => begin(p, image, registers, cells, lines),
     }
 }
@@ -91,27 +103,15 @@ fn finish(reply: GrantReply, lines: &mut [u8], at: usize) -> Report
     let rec = reply.rec;
     let outcome = reply.outcome;
     match outcome {
-        Outcome::Refused(number) => Report {
-            count: put_refusal(number, 0, lines, at),
-            more: false,
-            rec,
-            cycles: 0,
-        },
+        Outcome::Refused(number) => stop_after(put_refusal(number, 0, lines, at), rec),
         Outcome::Stopped(ending) => {
             if let Ending::OutputFull = ending {
-                return Report {
-                    count: at,
-                    more: true,
-                    rec,
-                    cycles: 0,
-                };
+                return grant_after(at, rec, 0);
             }
-            Report {
-                count: put_ending(ending, rec.ircr, rec.iar, rec.spent, lines, at),
-                more: false,
+            stop_after(
+                put_ending(ending, rec.ircr, rec.iar, rec.spent, lines, at),
                 rec,
-                cycles: 0,
-            }
+            )
         }
     }
 }

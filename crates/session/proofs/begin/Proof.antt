@@ -13,6 +13,9 @@ start-requires c κs = search needs
 put-refusal-requires : tie.Need-put-refusal-requires
 put-refusal-requires c κs = search needs
 
+stop-after-requires : tie.Need-stop-after-requires
+stop-after-requires c κs = search needs
+
 same-length : tie.Need-same-length
 same-length c = search needs
 
@@ -24,13 +27,17 @@ same-length-3 c = search needs
 
 returns : tie.Need-returns
 returns c =
-    let begun = c .before .before .before .before .before .before .before .before .before in
+    let begun = c .before .before .before .before .before .before .before .before .before .before in
     let a = begun .before .before .before .before .before .args in
-    let put = c .before .before .put-refusal .ensures in (
+    let put = c .before .before .before .put-refusal .ensures in
+    rw (c .stop-after .ensures) (
       not-begun (a .p) (now (a .image)) (now (a .registers)) (now (a .cells)) (now (a .lines)) (begun .start .ensures)
-          (c .before .before .before .before .if1 .taken) put,
+          (c .before .before .before .before .before .if1 .taken) put,
       omega (arith, put .room, put .end, put-length put),
     )
+
+grant-after-requires : tie.Need-grant-after-requires
+grant-after-requires c κs = search needs
 
 same-length-4 : tie.Need-same-length-4
 same-length-4 c = search needs
@@ -40,9 +47,10 @@ same-length-5 c = search needs
 
 returns-2 : tie.Need-returns-2
 returns-2 c =
-    let begun = c .before .before .before .before .before in
+    let begun = c .before .before .before .before .before .before in
     let a = begun .before .before .before .before .before .args in
-    (has-begun (a .p) (now (a .image)) (now (a .registers)) (now (a .cells)) (now (a .lines)) (begun .start .ensures) (c .if1 .left), omega arith)
+    rw (c .grant-after .ensures)
+    (has-begun (a .p) (now (a .image)) (now (a .registers)) (now (a .cells)) (now (a .lines)) (begun .start .ensures) (c .before .if1 .left), omega arith)
 
 pub begin-spec : {M : Type 1} → statement M
 begin-spec =
@@ -50,10 +58,12 @@ begin-spec =
     (tie.spec
     start-requires
     put-refusal-requires
+    stop-after-requires
     same-length
     same-length-2
     same-length-3
     returns
+    grant-after-requires
     same-length-4
     same-length-5
     returns-2)

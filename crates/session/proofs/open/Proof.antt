@@ -20,6 +20,9 @@ put-refusal-requires c κs = search needs
 fresh-requires : tie.Need-fresh-requires
 fresh-requires c κs = search needs
 
+stop-after-requires : tie.Need-stop-after-requires
+stop-after-requires c κs = search needs
+
 enum-told : tie.Need-enum-told
 enum-told c = search needs
 
@@ -34,11 +37,12 @@ same-length-2 c = search needs
 
 returns : tie.Need-returns
 returns c =
-    let done = c .before .before .before .before .before .before .before .before .before .before in
+    let done = c .before .before .before .before .before .before .before .before .before .before .before in
     let a = done .before .before .before .before .before .args in
-    let put = c .before .before .before .put-refusal .ensures in (
+    let put = c .before .before .before .before .put-refusal .ensures in
+    rw (c .stop-after .ensures) (
       not-loaded (a .p) (now (a .text)) (now (a .image)) _ (now (a .registers)) (now (a .cells)) (now (a .lines))
-          (done .load .ensures .0) (done .load .ensures .1 .1) (c .before .before .before .before .before .before .loaded .given .1) _ refl put,
+          (done .load .ensures .0) (done .load .ensures .1 .1) (c .before .before .before .before .before .before .before .loaded .given .1) _ refl put,
       omega (arith, put .room, put .end, put-length put),
     )
 
@@ -72,6 +76,7 @@ open-spec =
     enum-known-loaded
     put-refusal-requires
     fresh-requires
+    stop-after-requires
     enum-told
     begin-requires
     same-length
