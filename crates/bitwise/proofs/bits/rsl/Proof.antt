@@ -43,16 +43,16 @@ below : (c : tie.Then1) → toZ w64 (ofZ w64 (c .before .double .result)) +ℤ t
 below c =
     rw (twice (c .before), full (c .before .before)) (double-below (c .before .before .args .m) (c .before .before .args .x) (c .before .before .pre .1) (rw (twice (c .before), low (c .before)) at (c .if1 .taken)))
 
-above : (c : tie.Then2) → toZ w64 (ofZ w64 (c .before .before .double .result)) -ℤ toZ w64 (2 * c .before .before .before .args .m) ≡ shiftLeft (c .before .before .before .args .m) (c .before .before .before .args .x)
-above c =
-    rw (twice (c .before .before), full (c .before .before .before)) (double-above (c .before .before .before .args .m) (c .before .before .before .args .x) (c .before .before .before .pre .1) (rw (twice (c .before .before), top (c .before .before .before)) at (c .if2 .taken)))
-
 inside : (c : tie.Else2) → toZ w64 (ofZ w64 (c .before .before .double .result)) ≡ shiftLeft (c .before .before .before .args .m) (c .before .before .before .args .x)
 inside c =
     twice (c .before .before)
     ∙ double-inside (c .before .before .before .args .m) (c .before .before .before .args .x) (c .before .before .before .pre .1)
     (rw (twice (c .before .before), low (c .before .before)) at (c .before .if1 .left))
     (rw (twice (c .before .before), top (c .before .before .before)) at (c .if2 .left))
+
+above : (c : tie.Then2) → toZ w64 (ofZ w64 (c .before .before .double .result)) -ℤ toZ w64 (2 * c .before .before .before .args .m) ≡ shiftLeft (c .before .before .before .args .m) (c .before .before .before .args .x)
+above c =
+    rw (twice (c .before .before), full (c .before .before .before)) (double-above (c .before .before .before .args .m) (c .before .before .before .args .x) (c .before .before .before .pre .1) (rw (twice (c .before .before), top (c .before .before .before)) at (c .if2 .taken)))
 
 double-requires : tie.Need-double-requires
 double-requires c κs = search needs

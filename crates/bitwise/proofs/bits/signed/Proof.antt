@@ -21,16 +21,16 @@ range c = signed-mag (c .args .m) (one (c .pre .0)) (c .args .u) (c .pre .1)
 fits : (c : tie.Start) → SFits w32 (signedOf (c .args .m) (c .args .u))
 fits c = within-fits (c .pre .0) (range c)
 
-difference : (c : tie.Else1) → toZ w64 (c .before .args .u) -ℤ toZ w64 (2 * c .before .args .m) ≡ signedOf (c .before .args .m) (c .before .args .u)
-difference c =
-    rw (toZ-pos w64 {n = c .before .args .u} (omega arith), toZ-pos w64 {n = 2 * c .before .args .m} (omega (arith, at-most (c .before .pre .0))))
-    (signed-high (c .before .args .m) (c .before .args .u) (c .if1 .left) (c .before .pre .1))
-
 cast-result : tie.Need-cast-result
 cast-result c = record { sfits = omega (arith, at-most (c .before .pre .0)) }
 
 returns : tie.Need-returns
 returns c = rw (toZ-pos w32 {n = c .before .args .u} (omega (arith, at-most (c .before .pre .0)))) (signed-low (c .before .args .m) (c .before .args .u) (c .if1 .taken), c .if1 .taken)
+
+difference : (c : tie.Else1) → toZ w64 (c .before .args .u) -ℤ toZ w64 (2 * c .before .args .m) ≡ signedOf (c .before .args .m) (c .before .args .u)
+difference c =
+    rw (toZ-pos w64 {n = c .before .args .u} (omega arith), toZ-pos w64 {n = 2 * c .before .args .m} (omega (arith, at-most (c .before .pre .0))))
+    (signed-high (c .before .args .m) (c .before .args .u) (c .if1 .left) (c .before .pre .1))
 
 cast-result-2 : tie.Need-cast-result-2
 cast-result-2 c = search needs
