@@ -20,9 +20,6 @@ registers c = sym (c .before .within2 .ensures) ∙ not-false _ (c .if2 .left)
 cells : (c : tie.Else3) → (between 1 4096 (c .before .before .before .before .before .before .before .args .p .s) && leb (c .before .before .before .before .before .before .before .args .p .s) (limit (c .before .before .before .before .before .before .before .args .p .k) - 1)) ≡ true
 cells c = rw (c .before .before .limit-of .ensures .0) at (sym (c .before .countable .ensures) ∙ not-false _ (c .if3 .left))
 
-stack : (c : tie.Else4) → leb (c .before .before .before .before .before .before .before .before .before .args .p .b) (c .before .before .before .before .before .before .before .before .before .args .p .s) ≡ true
-stack c = le-leb _ _ (c .if4 .left)
-
 within-requires : tie.Need-within-requires
 within-requires c κs = search needs
 
@@ -52,6 +49,9 @@ returns-3 c =
 returns-4 : tie.Need-returns-4
 unfolding parameterChecks
 returns-4 c = rw (bits (c .before .before .before .before .before .before .before), registers (c .before .before .before .before .before), cells (c .before .before), lt-leb _ _ (c .if4 .taken))
+
+stack : (c : tie.Else4) → leb (c .before .before .before .before .before .before .before .before .before .args .p .b) (c .before .before .before .before .before .before .before .before .before .args .p .s) ≡ true
+stack c = le-leb _ _ (c .if4 .left)
 
 countable-requires-2 : tie.Need-countable-requires-2
 countable-requires-2 c κs = one (c .before .before .before .before .limit-of .ensures .1)
