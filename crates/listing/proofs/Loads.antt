@@ -82,13 +82,10 @@ module _ (p : Parameters) where
       }
 
   -- "one instruction a line .., LF after each"
-  full-listing : (c : Cell) → cellFits p c ≡ true → cellListing c ≡ spaced (instructionWords c) ++ (10 ∷ [])
-  unfolding cellListing
-  full-listing c h = rw (full-cell p c h)
-
   cell-loads : (t : ℕ) (s ws : List ℕ) (c : Cell) → cellFits p c ≡ true → LoadsAs t s ws → LoadsAs (suc t) (cellListing c ++ s) (cellWords c ++ ws)
+  unfolding cellListing
   cell-loads t s ws c h r =
-      rw (full-listing c h, append-snoc)
+      rw (full-cell p c h, append-snoc)
       (line-loads t (spaced (instructionWords c)) s ws c (words-inner (instructionWords c) (cell-words c)) (cell-back p c h) r)
 
   cells-load : (t : ℕ) (ws : List ℕ) → length ws ≡ 4 * t → cellsFit p t ws ≡ true → LoadsAs t (listingFrom t ws) ws

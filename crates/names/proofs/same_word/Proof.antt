@@ -17,7 +17,7 @@ abbrev μ-loop : tie.MeasureT-loop
 μ-loop w name i₀ i = length w - i
 
 returns : tie.Need-returns Inv-loop μ-loop
-returns c = sym (other-length _ _ (c .if1 .taken))
+returns c = let l = c .if1 .taken in sym (other-length _ _ (λ e. absurd (omega arith)))
 
 loop-holds : tie.Need-loop-holds Inv-loop μ-loop
 loop-holds c = (search needs, c .if1 .left, refl)
