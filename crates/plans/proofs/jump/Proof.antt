@@ -25,7 +25,8 @@ returns-2 : tie.Need-returns-2
 returns-2 c =
     let s = c .before .before .before in
     let f = s .fits .target in
-    c .fail2 .ensures ∙ jump-beyond (s .args .t) (s .args .target) (s .args .at) (rw (toZ-ofZ f) at (c .before .before .if1 .left)) (rw (toZ-ofZ f) at (c .before .if2 .taken))
+    let l = rw (toZ-ofZ f) at (c .before .if2 .taken) in
+    c .fail2 .ensures ∙ jump-beyond (s .args .t) (s .args .target) (s .args .at) (rw (toZ-ofZ f) at (c .before .before .if1 .left)) (omega arith)
 
 cast-t6 : tie.Need-cast-t6
 cast-t6 c = search needs

@@ -16,7 +16,9 @@ jump-when-requires c κs = search needs
 returns : tie.Need-returns
 returns c =
     let s = c .before .before .before in
-    let h : isBoolean (s .args .value) ≡ true = rw (toZ-ofZ (s .fits .value)) at (sym (c .before .before .is-boolean .ensures) ∙ c .before .if1 .taken) in
+    let f = s .fits .value in
+    let g = s .fits .target in
+    let h : isBoolean (s .args .value) ≡ true = simp toZ-ofZ at (sym (c .before .before .is-boolean .ensures) ∙ c .before .if1 .taken) in
     c .jump-when .ensures ∙ rw (toZ-ofZ (s .fits .target), h)
 
 fail-requires : tie.Need-fail-requires
@@ -25,7 +27,9 @@ fail-requires c κs = search needs
 returns-2 : tie.Need-returns-2
 returns-2 c =
     let s = c .before .before .before in
-    let h : isBoolean (s .args .value) ≡ false = rw (toZ-ofZ (s .fits .value)) at (sym (c .before .before .is-boolean .ensures) ∙ c .before .if1 .left) in
+    let f = s .fits .value in
+    let g = s .fits .target in
+    let h : isBoolean (s .args .value) ≡ false = simp toZ-ofZ at (sym (c .before .before .is-boolean .ensures) ∙ c .before .if1 .left) in
     c .fail .ensures ∙ rw h
 
 pub jump-boolean-spec : {M : Type 1} → statement M

@@ -21,8 +21,7 @@ jump-requires c κs = search needs
 returns : tie.Need-returns
 returns c =
     let s = c .before .before in
-    let f : SFits w32 (pos (s .args .at .iar + 2)) = record { sfits = omega (arith, s .pre) } in
-    rw (toZ-pos w32 {n = s .args .at .iar} (omega (arith, s .pre)), toZ-ofZ f) at (c .jump .ensures)
+    rw (toZ-ofZ (add-jump (c .before)), toZ-pos w32 {n = s .args .at .iar} (omega (arith, s .pre))) at (c .jump .ensures)
 
 pub skip-spec : {M : Type 1} → statement M
 skip-spec = tie.close (tie.spec cast-jump add-jump jump-requires returns)
