@@ -77,6 +77,14 @@ add-count c =
     let start = found .before .before .before .before .before .before .before in
     record { fits = omega (arith, room-for (at .0) (at .1) (runs found), at .1 .long, long-enough start) }
 
+-- A step keeps the invariant.
+loop-again : tie.Need-loop-again Inv-loop μ-loop
+loop-again c =
+    let found = c .before .before .before .before .before .before .before .before .before .before in
+    let at = found .before .before .before .loop .inv in
+    let stepped = c .before .before .before in
+    (at .0, goes-on (at .0) (at .1) (runs found) _ (stepped .step .ensures .0 _) (stepped .step .ensures .1) refl)
+
 mul-step : tie.Need-mul-step Inv-loop μ-loop
 mul-step c = let i = c .before .before .before .before .before .before .before .before .loop .inv .1 in record { fits = omega (arith, i .within, i .long, long-enough (c .before .before .before .before .before .before .before .before .before .before .before .before)) }
 
@@ -97,13 +105,6 @@ loop-less c =
     let found = c .before .before .before .before .before .before .before .before .before .before in
     let at = found .before .before .before .loop .inv in
     omega (arith, cost-paid (at .0) (at .1) (runs found), cost-some (at .0) (at .1) (runs found))
-
-loop-again : tie.Need-loop-again Inv-loop μ-loop
-loop-again c =
-    let found = c .before .before .before .before .before .before .before .before .before .before in
-    let at = found .before .before .before .loop .inv in
-    let stepped = c .before .before .before in
-    (at .0, goes-on (at .0) (at .1) (runs found) _ (stepped .step .ensures .0 _) (stepped .step .ensures .1) refl)
 
 pub run-spec : {M : Type 1} → statement M
 run-spec =
