@@ -2,10 +2,10 @@
 use Prim.Native.Nat.{ℕ, suc, _+_, _-_, _%_, _^_, _<_}
 use mathlib.Core.Path.{_≡_, refl, ap, _∙_}
 use mathlib.Core.Bool.{Bool, true, false, cond}
+use native.Mathlib.Decide.{decLt}
 use native.Mathlib.Omega.{arith}
 use lib.Dec.{ltb}
 use lib.IntN.{pos, negsuc, _-ℤ_}
-use lib.Signed.{mag}
 use borrow.Author.Tests.{ltb-true, ltb-false}
 use mir.Facts.{toZ-pos}
 use mir.Syntax.{w32}
@@ -28,12 +28,10 @@ lowered v h = go (ltb v (2 ^ 29)) refl
 pub number-read : (v : ℕ) → v < 2 ^ 30 → toZ w32 (raised v) -ℤ pos (2 ^ 29) ≡ numberOf v
 number-read v h = rw (toZ-pos w32 {n = raised v} (omega arith)) (lowered v h)
 
-number-mag : (v : ℕ) → v < 2 ^ 30 → mag (numberOf v) < 2 ^ 29
-number-mag v h = go (ltb v (2 ^ 29)) refl
+-- 2^29 less than a signed number that is not negative is one.
+pub lowered-fits : {u : ℕ} → SFits w32 (pos u) → SFits w32 (toZ w32 u -ℤ pos (2 ^ 29))
+lowered-fits {u} h = rw (toZ-pos w32 {n = u} (h .sfits)) (go (decLt u (2 ^ 29)))
   where
-    go : (b : Bool) → ltb v (2 ^ 29) ≡ b → mag (cond b (pos v) (negsuc (2 ^ 30 - suc v))) < 2 ^ 29
-    go true e = ltb-true v (2 ^ 29) e
-    go false e = let l = ltb-false v (2 ^ 29) e in omega arith
-
-pub number-fits : (v : ℕ) → v < 2 ^ 30 → SFits w32 (toZ w32 (raised v) -ℤ pos (2 ^ 29))
-number-fits v h = rw (number-read v h) (record { sfits = omega (arith, number-mag v h) })
+    go : Dec (u < 2 ^ 29) → SFits w32 (pos u -ℤ pos (2 ^ 29))
+    go (yes l) = rw (sub-lt u (2 ^ 29) l) (record { sfits = omega arith })
+    go (no g) = rw (sub-ge u (2 ^ 29) (omega arith)) (record { sfits = omega (arith, h .sfits) })

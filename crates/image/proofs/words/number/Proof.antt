@@ -5,7 +5,7 @@ use native.Mathlib.Omega.{arith}
 use borrow.Author.Needs.{needs}
 use mir.Facts.{toZ-ofZ}
 use Rattle.model.specs.Words.{numberOf}
-use Rattle.image.proofs.WordLaws.{number-read, number-fits}
+use Rattle.image.proofs.WordLaws.{number-read, lowered-fits}
 use Rattle.image.proofs.words.number.Statement.{statement}
 use Rattle.image.proofs.words.number.Tie as tie
 
@@ -22,10 +22,10 @@ cast-result : tie.Need-cast-result
 cast-result c = search needs
 
 sub-result : tie.Need-sub-result
-sub-result c = number-fits (c .content .result) (below c)
+sub-result c = lowered-fits (cast-result c)
 
 returns : tie.Need-returns
-returns c = toZ-ofZ (number-fits (c .content .result) (below c)) ∙ number-read (c .content .result) (below c) ∙ ap numberOf (c .content .ensures)
+returns c = toZ-ofZ (sub-result c) ∙ number-read (c .content .result) (below c) ∙ ap numberOf (c .content .ensures)
 
 pub number-spec : {M : Type 1} → statement M
 number-spec = tie.close (tie.spec content-requires add-raised cast-result sub-result returns)
