@@ -25,9 +25,6 @@ same-length-2 c = search needs
 returns-2 : tie.Need-returns-2
 returns-2 c = rw (c .before .before .before .if2 .taken) (refl, (c .before .clear2 .ensures, refl))
 
-dump-requires : tie.Need-dump-requires
-dump-requires c κs = rw (c .before .before .if3 .taken) at (c .before .before .before .before .before .pre .1)
-
 same-length-3 : tie.Need-same-length-3
 same-length-3 c = search needs
 
@@ -36,6 +33,9 @@ same-length-4 c = search needs
 
 returns-3 : tie.Need-returns-3
 returns-3 c = rw (c .before .before .before .before .if3 .taken) (refl, (refl, c .before .dump .ensures))
+
+dump-requires : tie.Need-dump-requires
+dump-requires c κs = rw (c .before .before .if3 .taken) at (c .before .before .before .before .before .pre .1)
 
 dump-requires-2 : tie.Need-dump-requires-2
 dump-requires-2 c κs = rw (c .before .before .if4 .taken) at (c .before .before .before .before .before .before .pre .1)
