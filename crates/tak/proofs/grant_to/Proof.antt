@@ -20,6 +20,15 @@ grant-requires c κs = search needs
 outcome-number-requires : tie.Need-outcome-number-requires
 outcome-number-requires c κs = search needs
 
+returns-2 : tie.Need-returns-2
+returns-2 c =
+    let number = c .before .before .before .before in
+    let ran = number .before .before .before .before in
+    let read = ran .before .before .before .before in
+    let passed = read .before .before in
+    let a = passed .before .before .before .args in
+    grant-replied (a .image .now) (a .input .now) (a .cycles) (a .numbers .now) (a .registers .now) (a .cells .now) (a .output .now) (passed .if1 .left) (read .record-from .ensures) (ran .grant .ensures) (number .outcome-number .ensures) (c .outcome-ending .ensures) (c .before .before .hand-back .ensures)
+
 hand-back-requires : tie.Need-hand-back-requires
 hand-back-requires c κs =
     let ran = c .before .before .before .before .before in
@@ -42,15 +51,6 @@ same-length-3 c = search needs
 
 same-length-4 : tie.Need-same-length-4
 same-length-4 c = search needs
-
-returns-2 : tie.Need-returns-2
-returns-2 c =
-    let number = c .before .before .before .before in
-    let ran = number .before .before .before .before in
-    let read = ran .before .before .before .before in
-    let passed = read .before .before in
-    let a = passed .before .before .before .args in
-    grant-replied (a .image .now) (a .input .now) (a .cycles) (a .numbers .now) (a .registers .now) (a .cells .now) (a .output .now) (passed .if1 .left) (read .record-from .ensures) (ran .grant .ensures) (number .outcome-number .ensures) (c .outcome-ending .ensures) (c .before .before .hand-back .ensures)
 
 pub grant-to-spec : {M : Type 1} → statement M
 grant-to-spec =
