@@ -13,20 +13,7 @@ ROOT = pathlib.Path(__file__).resolve().parents[2]
 
 # An edit that changes a proof too: why.
 PROOF_PARTS = {
-    "machine/cycles_are_spent_total": "the proof counts the steps of the code before the reply, and has one less",
-    "machine/grant_pauses_before_any_step": "the law of the run names its allowance",
-    "machine/leftover_lost": "the law of the run names its allowance",
     "machine/refused_grant_has_written": "the proof counts the steps of the code before the reply, and has a call more",
-    "machine/refused_start_hands_back_fresh": "the proof names the call that makes the record",
-    "machine/shr_as_top": "the law of the sum names both numbers",
-    "machine/shr_one_too_high": "the proof names the difference",
-    "machine/works_once_then_pauses": "the law of the run names its allowance",
-    "model/skip_two_before_end": "the law that a step keeps what 15 asks names SKIP's target",
-    "model/target_against_line_count": "the law that a step keeps what 15 asks names SKIP's target",
-    "settings/bad_word_not_void": "the definition of the scan follows the code, and its laws name the count",
-    "settings/comma_as_a_blank": "the proof names the test that is called",
-    "settings/four_words_accepted": "the definition of the scan follows the code, and its laws name the count",
-    "settings/ten_digits_allowed": "the definition of the scan follows the code, and its laws name the digits",
 }
 
 # A proof that names an obligation, or a fact before a step, that is not there shows nothing about the program.

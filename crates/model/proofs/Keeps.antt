@@ -239,7 +239,7 @@ module _ (e : Environment) (l : Limits (e .parameters)) (s : State) (g : Going e
   execute-lands outputs c k r = next-lands e l s g
   execute-lands pushes c k r = push-lands e l s g (c .first) (r .first)
   execute-lands pops c k r = pop-lands e l s g (c .first)
-  execute-lands skips c k r = jump-lands e l s g (pos (s .iar + 2))
+  execute-lands skips c k r = jump-lands e l s g _
   execute-lands idles c k r = next-lands e l s g
   execute-lands (writes to f) c k r =
       let x = value-mag e l s (g .sound) (c .first) (r .first) in

@@ -37,6 +37,15 @@ returns c =
     let a = c .before .before .before .before .before .before .args in
     grant-refuses (a .image .now) (a .input .now) (a .rec) (a .cycles) (a .registers .now) (a .cells .now) (a .out .now) _ (c .before .grant-refusal .ensures (a .out .now)) (c .if1 .taken)
 
+returns-2 : tie.Need-returns-2
+returns-2 c =
+    let ran = c .before .before .before .before .before .before in
+    let core = ran .before .before .before .before in
+    let passed = core .before .before .before .before .before .before in
+    let a = passed .before .before .before .before .before .before .args in
+    grant-accepts (a .image .now) (a .input .now) (a .rec) (a .cycles) (a .registers .now) (a .cells .now) (a .out .now) (passed .before .grant-refusal .ensures (a .out .now)) (passed .if1 .left) _
+    (core .core-of .ensures (a .registers .now) (a .cells .now)) (ran .run .ensures) (c .before .before .record-of .ensures)
+
 limit-of-requires : tie.Need-limit-of-requires
 limit-of-requires c κs =
     let p = c .before .before .before .before .before .before .before .args .rec .parameters in
@@ -82,15 +91,6 @@ same-length-4 c = search needs
 
 same-length-5 : tie.Need-same-length-5
 same-length-5 c = search needs
-
-returns-2 : tie.Need-returns-2
-returns-2 c =
-    let ran = c .before .before .before .before .before .before in
-    let core = ran .before .before .before .before in
-    let passed = core .before .before .before .before .before .before in
-    let a = passed .before .before .before .before .before .before .args in
-    grant-accepts (a .image .now) (a .input .now) (a .rec) (a .cycles) (a .registers .now) (a .cells .now) (a .out .now) (passed .before .grant-refusal .ensures (a .out .now)) (passed .if1 .left) _
-    (core .core-of .ensures (a .registers .now) (a .cells .now)) (ran .run .ensures) (c .before .before .record-of .ensures)
 
 pub grant-spec : {M : Type 1} → statement M
 grant-spec =
