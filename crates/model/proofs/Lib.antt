@@ -15,4 +15,5 @@ pub mod Lists
 pub mod Demand
 pub mod Refusals
 pub mod Endings
+pub mod LoadNumbers
 pub mod Marked

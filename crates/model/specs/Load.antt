@@ -197,3 +197,34 @@ pub record LoadNumbers : Type 0 where
 unfoldable pub loadNumbers : LoadReply → LoadNumbers
 loadNumbers (Accepted n) = record { refusal = 0; lines = n; line = 0 }
 loadNumbers (Refused k i) = record { refusal = k; lines = 0; line = i }
+
+-- THE SAME NUMBERS FROM THE CHECKS AND THE TEXT, without the reply: what `loadNumbers` makes of load's reply.
+-- "the first faulty line": the number of its fault, 0 if no line is faulty
+unfoldable pub firstFault : Parameters → List (List ℕ) → ℕ
+firstFault p [] = 0
+firstFault p (l ∷ ls) = elim (lineOf p l) [ fine c ↦ firstFault p ls | fault k ↦ k ]
+
+-- "with its index": the count of the lines before the first faulty one
+unfoldable pub rightLines : Parameters → List (List ℕ) → ℕ
+rightLines p [] = 0
+rightLines p (l ∷ ls) = elim (lineOf p l) [ fine c ↦ suc (rightLines p ls) | fault k ↦ 0 ]
+
+-- 1 to 7; "8 more than T lines"
+abbrev pub sizeChecks : Parameters → (text old : List ℕ) → List Check
+sizeChecks p text old = loadChecks p text old ++ (8 unless (leb (length (lines text)) (p .t)) ∷ [])
+
+-- The refusal: 1 to 8, "Then the first faulty line"; 0 if there is none.
+unfoldable pub loadRefusal : Parameters → (text old : List ℕ) → ℕ
+loadRefusal p text old = elim (refusalOf (sizeChecks p text old)) [ zero ↦ firstFault p (lines text) | suc k ↦ suc k ]
+
+-- "An accepted load gives 0 and the count of lines."
+unfoldable pub loadLines : Parameters → (text old : List ℕ) → ℕ
+loadLines p text old = cond (eqb (loadRefusal p text old) 0) (length (lines text)) 0
+
+-- "the first faulty line, with its index (0 in all other refusals)": its numbers are those from 11 on.
+unfoldable pub loadLine : Parameters → (text old : List ℕ) → ℕ
+loadLine p text old = cond (leb 11 (loadRefusal p text old)) (rightLines p (lines text)) 0
+
+-- The three together.
+abbrev pub numbersOfLoad : Parameters → (text old : List ℕ) → LoadNumbers
+numbersOfLoad p text old = record { refusal = loadRefusal p text old; lines = loadLines p text old; line = loadLine p text old }
