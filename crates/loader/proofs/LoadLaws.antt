@@ -1,25 +1,27 @@
 -- Load's reply and its image, check by check. Assumes nothing.
 use Prim.Native.Nat.{ℕ, zero, suc, _*_, _≤_, _<_}
 use mathlib.Core.Path.{_≡_, refl, sym, ap, subst, _∙_}
+use mathlib.Core.Bool.{true}
 use mathlib.Core.List.{List, [], _∷_}
 use native.Mathlib.Omega.{arith}
 use lib.Dec.{leb}
-use lib.ListN.{length, take}
+use lib.ListN.{length}
 use borrow.Author.Tests.{eq-eqb, ne-eqb, le-leb, lt-leb}
 use Rattle.model.specs.declared.Parameters.{Parameters}
 use Rattle.model.specs.declared.LoadReply.{LoadReply}
 use Rattle.model.specs.declared.LoadReply.the-variants.{Accepted, Refused}
 use Rattle.model.specs.Parameters.{Check, _unless_, refusalOf, parameterChecks, Fit}
-use Rattle.model.specs.Load.{lengthCheck, textReply, loadChecks, loadReply, imageAfter, loadNumbers}
+use Rattle.model.specs.Load.{lengthCheck, textReply, loadChecks, loadReply, imageAfter, loadNumbers, numbersOfLoad}
 use Rattle.model.proofs.Fits.{all-fit, parameters-numbered, refusal-first, refusal-later}
+use Rattle.model.proofs.LoadNumbers.{load-numbers}
 use Rattle.model.proofs.Refusals.{load-refused-first}
-use Rattle.loader.specs.Cells.{Holds}
+use Rattle.loader.specs.Passes.{Filled}
 
 module _ (p : Parameters) (text old : List ℕ) where
   -- A reply with the paper's numbers, and what else is promised.
   pub answered : {X : Type 0} {r : LoadReply} → r ≡ loadReply p text old → X →
-      (r ≡ loadReply p text old) × ((loadNumbers r ≡ loadNumbers (loadReply p text old)) × X)
-  answered e x = (e, (ap loadNumbers e, x))
+      (r ≡ loadReply p text old) × ((loadNumbers r ≡ numbersOfLoad p text old) × X)
+  answered e x = (e, (ap loadNumbers e ∙ load-numbers p text old, x))
 
   -- A refusal by the checks, and a text that they pass.
   refused : (r : ℕ) → ¬ (r ≡ 0) → refusalOf (loadChecks p text old) ≡ r → Refused r 0 ≡ loadReply p text old
@@ -51,11 +53,9 @@ module _ (p : Parameters) (text old : List ℕ) where
     pub by-lines : length old ≡ 4 * p .t → length text ≤ 65536 → {r : LoadReply} → r ≡ textReply p text → r ≡ loadReply p text old
     by-lines e h q = q ∙ sym (passed (behind ∙ simp (eq-eqb _ _ e, le-leb _ _ h)))
 
-  -- The image of an accepted text is copied from the cells; that of a refused one stays.
-  pub image-written : (cells new : List ℕ) {r : LoadReply} {n : ℕ} → r ≡ Accepted n → Holds p text cells r → length old ≡ 4 * p .t →
-      new ≡ take (length old) cells → new ≡ imageAfter p text old r
-  image-written cells new e h l q =
-      q ∙ ap (λ (k : ℕ). take k cells) l ∙ subst (Holds p text cells) e h ∙ sym (ap (imageAfter p text old) e)
+  -- The image of an accepted text is the one that a pass fills; that of a refused one stays.
+  pub image-written : (empty new : List ℕ) {r : LoadReply} {n : ℕ} → r ≡ Accepted n → Filled true p text empty new r → new ≡ imageAfter p text old r
+  image-written empty new e h = subst (Filled true p text empty new) e h ∙ sym (ap (imageAfter p text old) e)
 
   pub image-kept : {r : LoadReply} {k i : ℕ} → r ≡ Refused k i → old ≡ imageAfter p text old r
   image-kept e = sym (ap (imageAfter p text old) e)

@@ -1,15 +1,15 @@
--- A text line by line, as the loop that parses it meets it, and the cells that it fills. Assumes nothing.
+-- A text line by line, as the loops over it meet it: what it is refused for, and the cells that it fills. Assumes nothing.
 use Prim.Native.Nat.{ℕ, zero, suc, _+_, _*_, _-_, _≤_, _<_}
 use mathlib.Core.Path.{_≡_, refl, sym, ap, subst, _∙_}
-use mathlib.Core.Bool.{Bool, true, false, cond}
+use mathlib.Core.Bool.{Bool, true, false, cond, true≢false}
 use mathlib.Core.List.{List, [], _∷_, _++_, append-assoc, append-nil}
 use native.Mathlib.Nat.{zero-add, suc-add}
 use native.Mathlib.Numerals.{add-one}
 use native.Mathlib.Omega.{arith}
 use lib.Arith.{lt-of-le-ne}
 use lib.Dec.{leb}
-use lib.ListN.{length, getD, set, take, drop, replicate, length-append}
-use lib.Seq.{sets, set-at, append-snoc, take-append-add, paste-suc}
+use lib.ListN.{length, getD, set, drop, replicate, length-append, length-replicate}
+use lib.Seq.{sets, set-at, append-snoc, drop-cons}
 use borrow.Author.Tests.{le-leb, lt-leb}
 use Rattle.model.specs.declared.Parameters.{Parameters}
 use Rattle.model.specs.declared.LoadReply.{LoadReply}
@@ -21,7 +21,7 @@ use Rattle.text.specs.Lines.{NextLine}
 use Rattle.parser.specs.declared.line.Parsed.{Parsed}
 use Rattle.parser.specs.declared.line.Parsed.the-variants.{Words, Fault}
 use Rattle.parser.specs.Lines.{parsedOf}
-use Rattle.loader.specs.Cells.{Holds}
+use Rattle.loader.specs.Passes.{Ready, Filled}
 
 -- THE REPLY
 -- What is replied to the lines from number i on, all before it being right.
@@ -61,7 +61,7 @@ parsed-fault : (o : Checked Cell) (k : ℕ) → parsedOf o ≡ Fault k → o ≡
 parsed-fault (fine d) k e = let z : _≡_ {A = ℕ} 0 1 = cc in absurd (omega arith)
 parsed-fault (fault j) k e = cc
 
--- THE CELLS
+-- THE IMAGE
 -- A run of stores over zeros.
 sets-zeros : (vs done : List ℕ) (k n : ℕ) → length done ≡ n → sets (done ++ replicate (length vs + k) 0) n vs ≡ (done ++ vs) ++ replicate k 0
 sets-zeros [] done k n e = rw (zero-add k, append-nil done) refl
@@ -73,54 +73,74 @@ sets-zeros (v ∷ vs) done k n e =
     ∙ sets-zeros vs (done ++ (v ∷ [])) k (suc n) l
     ∙ ap (λ (xs : List ℕ). xs ++ replicate k 0) (append-snoc done v vs)
 
-take-zeros : (i k : ℕ) → i ≤ k → take {A = ℕ} i (replicate k 0) ≡ replicate i 0
-take-zeros zero k h = refl
-take-zeros (suc i) zero h = absurd (omega arith)
-take-zeros (suc i) (suc k) h = ap (λ (xs : List ℕ). 0 ∷ xs) (take-zeros i k (omega arith))
+-- What a pass has made of the image with i cells, whose words are `done`.
+abbrev Held : (write : Bool) → Parameters → (old image done : List ℕ) (i : ℕ) → Type 0
+Held true p old image done i = image ≡ done ++ replicate (4 * p .t - 4 * i) 0
+Held false p old image done i = image ≡ old
+
+held-first : (write : Bool) (p : Parameters) (image : List ℕ) → Ready write p image → Held write p image image [] 0
+held-first true p image h = let e : 4 * p .t ≡ 4 * p .t - 4 * 0 = omega arith in h ∙ ap (λ (k : ℕ). replicate k 0) e
+held-first false p image h = refl
 
 -- THE LOOP
--- Line i is next and the text goes on at `at`: the lines before it are right, and their words stand in front of empty cells.
-pub record Standing (p : Parameters) (text cells : List ℕ) (at i : ℕ) : Type 0 where
+-- Line i is next and the text goes on at `at`: the lines before it are right, and `done` are their words.
+pub record Standing (write : Bool) (p : Parameters) (text old image : List ℕ) (at i : ℕ) : Type 0 where
   pub done : List ℕ
   pub inside : at ≤ length text
   pub few : i ≤ p .t
   pub size : length done ≡ 4 * i
-  pub filled : cells ≡ done ++ replicate (16384 - 4 * i) 0
+  pub held : Held write p old image done i
   pub reply : textReply p text ≡ replyFrom p i (lines (drop at text))
   pub words : linesWords p (lines text) ≡ done ++ linesWords p (lines (drop at text))
   pub count : length (lines text) ≡ i + length (lines (drop at text))
 
-module _ (p : Parameters) (text : List ℕ) where
-  pub at-start : (cells : List ℕ) → cells ≡ replicate 16384 0 → Standing p text cells 0 0
+module _ (write : Bool) (p : Parameters) (text old : List ℕ) where
+  pub at-start : Ready write p old → Standing write p text old old 0 0
   unfolding textReply
-  at-start cells e =
+  at-start h =
       record {
         done = [];
         inside = omega arith;
         few = omega arith;
         size = refl;
-        filled = e;
+        held = held-first write p old h;
         reply = ap (λ (k : ℕ). cond (leb k (p .t)) (linesReply p 0 (lines text)) (Refused 8 0)) (sym (zero-add (length (lines text))));
         words = refl;
         count = sym (zero-add (length (lines text)));
       }
 
-  module _ {cells : List ℕ} {at i : ℕ} (s : Standing p text cells at i) where
-    pub all-read : p .t ≤ 4096 → lines (drop at text) ≡ [] → (Accepted i ≡ textReply p text) × Holds p text cells (Accepted i)
-    unfolding linesWords imageOf
-    all-read t e =
-        let left = 4 * (p .t - i) in
-        let f = s .few in
-        let z : 4 * p .t ≡ length (s .done) + left = omega (arith, s .size) in
-        let k : length (lines text) ≡ i = omega (arith, s .count, ap length e) in
-        let ws : linesWords p (lines text) ≡ s .done = s .words ∙ ap (λ (ls : List (List ℕ)). s .done ++ linesWords p ls) e ∙ append-nil (s .done) in (
-          sym (s .reply ∙ ap (replyFrom p i) e ∙ reply-end p i f),
-          ap (take (4 * p .t)) (s .filled)
-              ∙ ap (λ (m : ℕ). take m (s .done ++ replicate (16384 - 4 * i) 0)) z
-              ∙ take-append-add (s .done) (replicate (16384 - 4 * i) 0) left
-              ∙ ap (λ (xs : List ℕ). s .done ++ xs) (take-zeros left (16384 - 4 * i) (omega arith))
-              ∙ rw (ws, k) refl,
-        )
+  module _ {image : List ℕ} {at i : ℕ} (s : Standing write p text old image at i) where
+    -- A pass that ends at a fault has kept the image, unless it writes.
+    pub held-refused : (k j : ℕ) → Filled write p text old image (Refused k j)
+    held-refused k j = go write (s .held)
+      where
+        go : (w : Bool) → Held w p old image (s .done) i → Filled w p text old image (Refused k j)
+        go true h = tt
+        go false h = h
+
+    module _ (e : lines (drop at text) ≡ []) where
+      pub all-read : Accepted i ≡ textReply p text
+      all-read = sym (s .reply ∙ ap (replyFrom p i) e ∙ reply-end p i (s .few))
+
+      pub all-held : Filled write p text old image (Accepted i)
+      unfolding linesWords imageOf
+      all-held = go write (s .held)
+        where
+          f : i ≤ p .t
+          f = s .few
+
+          k : length (lines text) ≡ i
+          k = s .count ∙ omega (arith, ap length e)
+
+          ws : linesWords p (lines text) ≡ s .done
+          ws = s .words ∙ ap (λ (ls : List (List ℕ)). s .done ++ linesWords p ls) e ∙ append-nil (s .done)
+
+          z : 4 * p .t - 4 * i ≡ 4 * (p .t - i)
+          z = omega (arith, f)
+
+          go : (w : Bool) → Held w p old image (s .done) i → Filled w p text old image (Accepted i)
+          go true h = h ∙ ap (λ (m : ℕ). s .done ++ replicate m 0) z ∙ rw (ws, k) refl
+          go false h = h
 
     module _ {end next : ℕ} (n : NextLine text at end next) where
       pub too-many : i ≡ p .t → textReply p text ≡ Refused 8 0
@@ -131,50 +151,77 @@ module _ (p : Parameters) (text : List ℕ) where
       at-fault k e =
           s .reply ∙ ap (replyFrom p i) (n .same) ∙ reply-fault p i (part at end text) (lines (drop next text)) k (parsed-fault _ k e)
 
-      pub at-cell : (h a b c : ℕ) → i < p .t → p .t ≤ 4096 → parsedOf (lineOf p (part at end text)) ≡ Words h a b c →
-          Standing p text (sets cells (4 * i) (h ∷ a ∷ b ∷ c ∷ [])) next (i + 1)
-      unfolding linesWords
-      at-cell h a b c l t e =
-          let ws = h ∷ a ∷ b ∷ c ∷ [] in
-          let ls = lines (drop next text) in
-          let f = parsed-words (lineOf p (part at end text)) h a b c e in
-          let z : 16384 - 4 * i ≡ length ws + (16384 - 4 * (i + 1)) = omega arith in
-          record {
-            done = s .done ++ ws;
-            inside = n .within;
-            few = omega arith;
-            size = length-append (s .done) ws ∙ omega (arith, s .size);
-            filled =
-                ap (λ (xs : List ℕ). sets xs (4 * i) ws) (s .filled ∙ ap (λ (m : ℕ). s .done ++ replicate m 0) z)
-                ∙ sets-zeros ws (s .done) (16384 - 4 * (i + 1)) (4 * i) (s .size);
-            reply = s .reply ∙ ap (replyFrom p i) (n .same) ∙ reply-fine p i (part at end text) ls (f .0) (f .1);
-            words =
-                s .words
-                ∙ ap (λ (xs : List (List ℕ)). s .done ++ linesWords p xs) (n .same)
-                ∙ ap (λ (xs : List ℕ). s .done ++ (xs ++ linesWords p ls)) (ap wordsOf (f .1) ∙ f .2)
-                ∙ sym (append-assoc (s .done) ws (linesWords p ls));
-            count = s .count ∙ omega (arith, ap length (n .same));
-          }
+      module _ (h a b c : ℕ) (l : i < p .t) (e : parsedOf (lineOf p (part at end text)) ≡ Words h a b c) where
+        abbrev ws : List ℕ
+        ws = h ∷ a ∷ b ∷ c ∷ []
 
--- A refusal of lines holds nothing.
-pub refused-line : (p : Parameters) (text cells : List ℕ) {r : LoadReply} {size : ℕ} (b : Bool) (k i : ℕ) →
-    r ≡ cond b (Refused k i) (Refused 8 0) → textReply p text ≡ cond b (Refused k i) (Refused 8 0) → length cells ≡ size →
-    (r ≡ textReply p text) × (Holds p text cells r × (length cells ≡ size))
-refused-line p text cells b k i e q z = (e ∙ sym q, (subst (Holds p text cells) (sym e) (go b), z))
+        at-cell : {new : List ℕ} → Held write p old new (s .done ++ ws) (i + 1) → Standing write p text old new next (i + 1)
+        unfolding linesWords
+        at-cell held =
+            let ls = lines (drop next text) in
+            let f = parsed-words (lineOf p (part at end text)) h a b c e in
+            record {
+              done = s .done ++ ws;
+              inside = n .within;
+              few = omega arith;
+              size = length-append (s .done) ws ∙ omega (arith, s .size);
+              held = held;
+              reply = s .reply ∙ ap (replyFrom p i) (n .same) ∙ reply-fine p i (part at end text) ls (f .0) (f .1);
+              words =
+                  s .words
+                  ∙ ap (λ (xs : List (List ℕ)). s .done ++ linesWords p xs) (n .same)
+                  ∙ ap (λ (xs : List ℕ). s .done ++ (xs ++ linesWords p ls)) (ap wordsOf (f .1) ∙ f .2)
+                  ∙ sym (append-assoc (s .done) ws (linesWords p ls));
+              count = s .count ∙ omega (arith, ap length (n .same));
+            }
+
+        pub cell-written : write ≡ true → Standing write p text old (sets image (4 * i) ws) next (i + 1)
+        cell-written q = at-cell (go write q (s .held))
+          where
+            z : 4 * p .t - 4 * i ≡ length ws + (4 * p .t - 4 * (i + 1))
+            z = omega (arith, l)
+
+            go : (w : Bool) → w ≡ true → Held w p old image (s .done) i → Held w p old (sets image (4 * i) ws) (s .done ++ ws) (i + 1)
+            go true q h =
+                ap (λ (xs : List ℕ). sets xs (4 * i) ws) (h ∙ ap (λ (m : ℕ). s .done ++ replicate m 0) z)
+                ∙ sets-zeros ws (s .done) (4 * p .t - 4 * (i + 1)) (4 * i) (s .size)
+            go false q h = absurd (true≢false (sym q))
+
+        pub cell-passed : write ≡ false → Standing write p text old image next (i + 1)
+        cell-passed q = at-cell (go write q (s .held))
+          where
+            go : (w : Bool) → w ≡ false → Held w p old image (s .done) i → Held w p old image (s .done ++ ws) (i + 1)
+            go true q h = absurd (true≢false q)
+            go false q h = h
+
+-- A refusal of lines, of either number.
+pub refused-line : (write : Bool) (p : Parameters) (text old image : List ℕ) {r : LoadReply} (b : Bool) (k i : ℕ) →
+    r ≡ cond b (Refused k i) (Refused 8 0) → textReply p text ≡ cond b (Refused k i) (Refused 8 0) →
+    ((k j : ℕ) → Filled write p text old image (Refused k j)) → (r ≡ textReply p text) × Filled write p text old image r
+refused-line write p text old image b k i e q h = (e ∙ sym q, subst (Filled write p text old image) (sym e) (go b))
   where
-    go : (x : Bool) → Holds p text cells (cond x (Refused k i) (Refused 8 0))
-    go true = tt
-    go false = tt
+    go : (x : Bool) → Filled write p text old image (cond x (Refused k i) (Refused 8 0))
+    go true = h k i
+    go false = h 8 0
 
 -- A cell more has room.
-pub room : {i t size : ℕ} → i ≤ t → ¬ (i ≡ t) → t ≤ 4096 → size ≡ 16384 → 4 * i + 4 ≤ size
-room l d h e = let k = lt-of-le-ne l d in omega arith
+pub room : {i t size : ℕ} → i ≤ t → ¬ (i ≡ t) → size ≡ 4 * t → 4 * i + 4 ≤ size
+room l d e = let k = lt-of-le-ne l d in omega arith
 
--- THE IMAGE
--- One more word of the cells.
-pub copied : (cells image : List ℕ) (i : ℕ) → i < length image → length image ≤ length cells →
-    set (take i cells ++ drop i image) i (getD cells i 0) ≡ take (i + 1) cells ++ drop (i + 1) image
-copied cells image i h l =
-    let e : set (take i cells ++ drop i image) i (getD cells i 0) ≡ take (suc i) cells ++ drop (suc i) image =
-    rw (zero-add i, zero-add (suc i)) at (paste-suc image 0 cells i 0 (omega arith) (omega arith)) in
+-- One more zero in front of what stands behind.
+abbrev pub zeros : ℕ → List ℕ
+zeros k = replicate k 0
+
+one-more : (k : ℕ) → zeros k ++ (0 ∷ []) ≡ zeros (suc k)
+one-more zero = refl
+one-more (suc k) = ap (λ (xs : List ℕ). 0 ∷ xs) (one-more k)
+
+pub cleared : (image : List ℕ) (i : ℕ) → i < length image → set (zeros i ++ drop i image) i 0 ≡ zeros (i + 1) ++ drop (i + 1) image
+cleared image i h =
+    let rest : List ℕ = drop (suc i) image in
+    let e : set (zeros i ++ drop i image) i 0 ≡ zeros (suc i) ++ rest =
+    ap (λ (xs : List ℕ). set (zeros i ++ xs) i 0) (drop-cons image i 0 h)
+    ∙ set-at (zeros i) (getD image i 0) rest 0 i (length-replicate {A = ℕ} i 0)
+    ∙ sym (append-snoc (zeros i) 0 rest)
+    ∙ ap (λ (xs : List ℕ). xs ++ rest) (one-more i) in
     rw (add-one i) e

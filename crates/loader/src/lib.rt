@@ -4,12 +4,14 @@ ghost use mathlib.Core.Bool.{cond};
 ghost use mathlib.Core.List.{_∷_, []};
 ghost use Prim.Native.Nat.{_+_, _*_, _≤_};
 ghost use lib.Dec.{leb};
-ghost use lib.ListN.{length, take, drop, replicate};
+ghost use lib.ListN.{length, drop, replicate};
 ghost use lib.Seq.{sets};
 ghost use Rattle.model.specs.declared.LoadReply.the-variants.{Refused};
 ghost use Rattle.model.specs.Parameters.{limit, Fit};
-ghost use Rattle.model.specs.Load.{lines, textReply, loadReply, imageAfter, loadNumbers};
-ghost use Rattle.loader.specs.Cells.{Holds};
+ghost use Rattle.model.specs.Load.{lines, textReply, loadReply, imageAfter, loadNumbers, numbersOfLoad};
+ghost use Rattle.image.specs.Forms.{formTable};
+ghost use Rattle.names.specs.Keys.{keyTable};
+ghost use Rattle.loader.specs.Passes.{Ready, Filled};
 use cells::limits::limit_of;
 use cells::limits::parameter_refusal;
 use image::forms::form_table;
@@ -21,9 +23,6 @@ use parser::line::Parsed;
 use parser::line::parse_line;
 use text::lines::count_lines;
 use text::lines::next_line;
-
-// The words of the greatest image.
-const MAX_WORDS: usize = 16384;
 
 // The fault of line i, behind which the text goes on at `next`; but more than t lines come first.
 fn refuse_line(text: &[u8], next: usize, i: usize, t: usize, k: u32) -> LoadReply
@@ -37,26 +36,33 @@ fn refuse_line(text: &[u8], next: usize, i: usize, t: usize, k: u32) -> LoadRepl
 }
 
 // Four words from a place on.
-fn put_cell(cells: &mut [u32], at: usize, head: u32, first: u32, second: u32, third: u32)
-    requires { ⌜ at + 4 ≤ length (now cells) ⌝ }
-    ensures { λ _. ⌜ now (cells .exit) ≡ sets (now (cells .entry)) at (head ∷ first ∷ second ∷ third ∷ []) ⌝ }
+fn put_cell(image: &mut [u32], at: usize, head: u32, first: u32, second: u32, third: u32)
+    requires { ⌜ at + 4 ≤ length (now image) ⌝ }
+    ensures { λ _. ⌜ now (image .exit) ≡ sets (now (image .entry)) at (head ∷ first ∷ second ∷ third ∷ []) ⌝ }
 {
-    cells[at] = head;
-    cells[at + 1] = first;
-    cells[at + 2] = second;
-    cells[at + 3] = third;
+    image[at] = head;
+    image[at + 1] = first;
+    image[at + 2] = second;
+    image[at + 3] = third;
 }
 
-// The lines of a text into cells, which are empty at first.
-fn parse_lines(text: &[u8], p: Parameters, m: u32, cells: &mut [u32]) -> LoadReply
+// A pass over the lines of a text: what it is refused for, or the count of its lines. Only a pass that writes fills the cells of an empty image.
+// The tables are those of `key_table` and `form_table`.
+fn parse_lines(
+    text: &[u8],
+    p: Parameters,
+    m: u32,
+    keys: &[u64],
+    forms: &[u32],
+    write: bool,
+    image: &mut [u32],
+) -> LoadReply
     requires { ⌜ Fit p × (m ≡ limit (p .k)) ⌝ }
-    requires { ⌜ now cells ≡ replicate 16384 0 ⌝ }
+    requires { ⌜ (now keys ≡ keyTable) × (now forms ≡ formTable) ⌝ }
+    requires { ⌜ (length (now image) ≡ 4 * p .t) × Ready write p (now image) ⌝ }
     ensures { λ r. ⌜ r ≡ textReply p (now (text .entry)) ⌝ }
-    ensures cells { λ r. ⌜ Holds p (now (text .entry)) (now (cells .exit)) r ⌝ }
-    ensures size { λ _. ⌜ length (now (cells .exit)) ≡ 16384 ⌝ }
+    ensures image { λ r. ⌜ Filled write p (now (text .entry)) (now (image .entry)) (now (image .exit)) r ⌝ }
 {
-    let keys = key_table();
-    let forms = form_table();
     let t = p.t as usize;
     let mut at = 0;
     let mut i = 0;
@@ -67,13 +73,15 @@ fn parse_lines(text: &[u8], p: Parameters, m: u32, cells: &mut [u32]) -> LoadRep
         if i == t {
             return LoadReply::Refused(8, 0);
         }
-        let parsed = parse_line(&text[at..end], p, m, &keys, &forms);
+        let parsed = parse_line(&text[at..end], p, m, keys, forms);
         match parsed {
             Parsed::Fault(k) => {
                 return refuse_line(text, next, i, t, k);
             }
             Parsed::Words(head, first, second, third) => {
-                put_cell(cells, 4 * i, head, first, second, third);
+                if write {
+                    put_cell(image, 4 * i, head, first, second, third);
+                }
             }
         }
         at = next;
@@ -82,22 +90,38 @@ fn parse_lines(text: &[u8], p: Parameters, m: u32, cells: &mut [u32]) -> LoadRep
     LoadReply::Accepted(i)
 }
 
-// The image becomes the cells' beginning.
-fn write_image(cells: &[u32], image: &mut [u32])
-    requires { ⌜ length (now image) ≤ length (now cells) ⌝ }
-    ensures { λ _. ⌜ now (image .exit) ≡ take (length (now (image .entry))) (now (cells .entry)) ⌝ }
+// Empty cells.
+fn clear(image: &mut [u32])
+    ensures { λ _. ⌜ now (image .exit) ≡ replicate (length (now (image .entry))) 0 ⌝ }
 {
     let mut i = 0;
     while i < image.len() {
-        image[i] = cells[i];
+        image[i] = 0;
         i += 1;
     }
 }
 
-// Loads a text. Nothing is written to the image before the last line has passed.
+// Loads a text that the first checks pass. A first pass sees whether it is refused, and only if it is not the image is written.
+fn load_lines(text: &[u8], p: Parameters, m: u32, image: &mut [u32]) -> LoadReply
+    requires { ⌜ Fit p × (m ≡ limit (p .k)) ⌝ }
+    requires { ⌜ length (now image) ≡ 4 * p .t ⌝ }
+    ensures { λ r. ⌜ r ≡ textReply p (now (text .entry)) ⌝ }
+    ensures image { λ r. ⌜ now (image .exit) ≡ imageAfter p (now (text .entry)) (now (image .entry)) r ⌝ }
+{
+    let keys = key_table();
+    let forms = form_table();
+    let reply = parse_lines(text, p, m, &keys, &forms, false, image);
+    if let LoadReply::Accepted(_) = reply {
+        clear(image);
+        return parse_lines(text, p, m, &keys, &forms, true, image);
+    }
+    reply
+}
+
+// Loads a text.
 pub fn load(p: Parameters, text: &[u8], image: &mut [u32]) -> LoadReply
     ensures { λ r. ⌜ r ≡ loadReply p (now (text .entry)) (now (image .entry)) ⌝ }
-    ensures numbers { λ r. ⌜ loadNumbers r ≡ loadNumbers (loadReply p (now (text .entry)) (now (image .entry))) ⌝ }
+    ensures numbers { λ r. ⌜ loadNumbers r ≡ numbersOfLoad p (now (text .entry)) (now (image .entry)) ⌝ }
     ensures image { λ r. ⌜ now (image .exit) ≡ imageAfter p (now (text .entry)) (now (image .entry)) r ⌝ }
 {
     let refusal = parameter_refusal(p);
@@ -111,10 +135,5 @@ pub fn load(p: Parameters, text: &[u8], image: &mut [u32]) -> LoadReply
     if Record::MAX_TEXT < text.len() {
         return LoadReply::Refused(7, 0);
     }
-    let mut cells = [0u32; MAX_WORDS];
-    let reply = parse_lines(text, p, limit_of(p.k), &mut cells);
-    if let LoadReply::Accepted(_) = reply {
-        write_image(&cells, image);
-    }
-    reply
+    load_lines(text, p, limit_of(p.k), image)
 }

@@ -7,7 +7,7 @@ use lib.ListN.{length}
 use borrow.Author.Tests.{eq-eqb, ne-eqb}
 use Rattle.model.specs.Calls.{Started, started, Granted, granted, outcomeNumber}
 use Rattle.model.specs.Grants.{Call}
-use Rattle.model.specs.Load.{loadReply, imageAfter, LoadNumbers, loadNumbers}
+use Rattle.model.specs.Load.{loadReply, imageAfter, LoadNumbers, loadNumbers, numbersOfLoad}
 use Rattle.model.specs.declared.GrantReply.{GrantReply}
 use Rattle.model.specs.declared.LoadReply.{LoadReply}
 use Rattle.model.specs.declared.Parameters.{Parameters}
@@ -19,11 +19,12 @@ use Rattle.records.specs.Records.{recordAfter, recordFrom}
 
 -- LOAD
 module _ (p : Parameters) (text image : List ℕ) where
-  pub load-replied : {r : LoadReply} {image′ : List ℕ} {n : LoadNumbers} → r ≡ loadReply p text image → image′ ≡ imageAfter p text image r →
-      loadNumbers r ≡ n → takLoad p text image ≡ record { number = n .refusal; lines = n .lines; line = n .line; image = image′ }
+  pub load-replied : {r : LoadReply} {image′ : List ℕ} {n : LoadNumbers} → r ≡ loadReply p text image →
+      loadNumbers r ≡ numbersOfLoad p text image → image′ ≡ imageAfter p text image r → loadNumbers r ≡ n →
+      takLoad p text image ≡ record { number = n .refusal; lines = n .lines; line = n .line; image = image′ }
   unfolding takLoad
-  load-replied {n = n} e m q =
-      let numbers : loadNumbers (loadReply p text image) ≡ n = ap loadNumbers (sym e) ∙ q in
+  load-replied {n = n} e k m q =
+      let numbers : numbersOfLoad p text image ≡ n = sym k ∙ q in
       let words = ap (imageAfter p text image) (sym e) ∙ sym m in
       λ i. record { number = numbers i .refusal; lines = numbers i .lines; line = numbers i .line; image = words i }
 

@@ -12,7 +12,7 @@ use Rattle.model.specs.declared.Outcome.the-variants.{Refused, Stopped}
 use Rattle.model.specs.declared.Parameters.{Parameters}
 use Rattle.model.specs.declared.Record.{Record}
 use Rattle.model.specs.Calls.{Started, started, Granted, granted, outcomeNumber, Spelled, spelled}
-use Rattle.model.specs.Load.{loadReply, imageAfter, loadNumbers}
+use Rattle.model.specs.Load.{loadReply, imageAfter, loadRefusal, loadLines, loadLine}
 use Rattle.records.specs.Records.{recordFrom, recordAfter}
 
 -- The parameters, as each call has them.
@@ -26,15 +26,14 @@ pub record LoadCall : Type 0 where
   pub line : ℕ
   pub image : List ℕ
 
--- The paper's numbers of the reply, and the image after it.
+-- The paper's three numbers, and the image after the reply.
 unfoldable pub takLoad : Parameters → (text image : List ℕ) → LoadCall
 takLoad p text image =
-    let reply = loadReply p text image in
     record {
-      number = loadNumbers reply .refusal;
-      lines = loadNumbers reply .lines;
-      line = loadNumbers reply .line;
-      image = imageAfter p text image reply;
+      number = loadRefusal p text image;
+      lines = loadLines p text image;
+      line = loadLine p text image;
+      image = imageAfter p text image (loadReply p text image);
     }
 
 -- START: what it returns, the registers, the data cells and the record.

@@ -5,7 +5,7 @@ use borrow.Author.Needs.{needs}
 use denote.Ref.{now}
 use Rattle.model.specs.Parameters.{Fit}
 use Rattle.model.proofs.Fits.{limits}
-use Rattle.loader.proofs.LoadLaws.{answered, by-parameters, by-length, by-text, by-lines, image-written, image-kept}
+use Rattle.loader.proofs.LoadLaws.{answered, by-parameters, by-length, by-text, by-lines}
 use Rattle.loader.proofs.load.Statement.{statement}
 use Rattle.loader.proofs.load.Tie as tie
 
@@ -44,55 +44,22 @@ returns-3 c =
 limit-of-requires : tie.Need-limit-of-requires
 limit-of-requires c κs = let l = limits _ (fit-of (c .before .before .before)) in (l .k-low, l .k-high)
 
-slice-aggregate-parse-lines : tie.Need-slice-aggregate-parse-lines
-slice-aggregate-parse-lines c = search needs
-
-parse-lines-requires : tie.Need-parse-lines-requires
-parse-lines-requires c κs = search needs
-
-enum-told : tie.Need-enum-told
-enum-told c = search needs
-
-slice-aggregate-write-image : tie.Need-slice-aggregate-write-image
-slice-aggregate-write-image c = search needs
-
-write-image-requires : tie.Need-write-image-requires
-write-image-requires c κs =
-    let e = c .before .before .before .before .before .before .before .before in
-    let l = limits _ (fit-of (e .before .before .before)) in
-    omega (arith, e .before .if2 .left, l .t-high, c .before .before .before .before .before .parse-lines .ensures .1 .1)
-
-enum-told-2 : tie.Need-enum-told-2
-enum-told-2 c = search needs
+load-lines-requires : tie.Need-load-lines-requires
+load-lines-requires c κs = let e = c .before .before in ((fit-of (e .before .before .before), search needs), e .before .if2 .left)
 
 same-length : tie.Need-same-length
 same-length c = search needs
 
 returns-4 : tie.Need-returns-4
 returns-4 c =
-    let e = c .before .before .before .before .before .before .before .before .before .before .before in
+    let e = c .before .before .before .before .before in
     let one = e .before .before .before in
     let s = one .before .before .before .before in
     let p = s .args .p in
     let text = now (s .args .text) in
     let image = now (s .args .image) in
-    let done = c .before .before .before .before .before .before .before .before .parse-lines in
-    answered p text image
-    (by-lines p text image (fit-of one) (e .before .if2 .left) (omega arith) (done .ensures .0))
-    (image-written p text image (done .last .1 .1 .1 .0) _ (c .before .before .before .before .before .enum-told .given .1) (done .ensures .1 .0)
-    (e .before .if2 .left) (c .before .before .write-image .ensures))
-
-returns-5 : tie.Need-returns-5
-returns-5 c =
-    let e = c .before .before .before .before .before .before in
-    let one = e .before .before .before in
-    let s = one .before .before .before .before in
-    let p = s .args .p in
-    let text = now (s .args .text) in
-    let image = now (s .args .image) in
-    let done = c .before .before .before .parse-lines in
-    answered p text image
-    (by-lines p text image (fit-of one) (e .before .if2 .left) (omega arith) (done .ensures .0)) (image-kept p text image (c .enum-told2 .given .1))
+    let loaded = c .before .before .load-lines .ensures in
+    answered p text image (by-lines p text image (fit-of one) (e .before .if2 .left) (omega arith) (loaded .0)) (loaded .1)
 
 pub load-spec : {M : Type 1} → statement M
 load-spec =
@@ -105,12 +72,6 @@ load-spec =
     returns-2
     returns-3
     limit-of-requires
-    slice-aggregate-parse-lines
-    parse-lines-requires
-    enum-told
-    slice-aggregate-write-image
-    write-image-requires
-    enum-told-2
+    load-lines-requires
     same-length
-    returns-4
-    returns-5)
+    returns-4)

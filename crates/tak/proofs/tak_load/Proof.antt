@@ -18,7 +18,8 @@ returns : tie.Need-returns
 returns c =
     let loaded = c .before .before .before .load in
     let a = c .before .before .before .before .before .before .before .args in
-    load-replied (parametersOf (a .k) (a .n) (a .s) (a .b) (a .t)) (a .text .now) (a .image .now) (loaded .ensures .0) (loaded .ensures .1 .1) (c .load-numbers .ensures)
+    load-replied (parametersOf (a .k) (a .n) (a .s) (a .b) (a .t)) (a .text .now) (a .image .now) (loaded .ensures .0) (loaded .ensures .1 .0)
+    (loaded .ensures .1 .1) (c .load-numbers .ensures)
 
 pub tak-load-spec : {M : Type 1} → statement M
 tak-load-spec = tie.close (tie.spec load-requires load-numbers-requires same-length returns)
