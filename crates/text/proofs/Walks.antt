@@ -1,5 +1,5 @@
 -- Tokens, words and lines byte by byte, as the loops that find their ends meet them. Assumes nothing.
-use Prim.Native.Nat.{ℕ, suc, _+_, _≤_, _<_}
+use Prim.Native.Nat.{ℕ, zero, suc, _+_, _-_, _≤_, _<_}
 use mathlib.Core.Path.{_≡_, refl, sym, ap, _∙_}
 use mathlib.Core.Bool.{Bool, true, false, _||_}
 use mathlib.Core.List.{List, [], _∷_, _++_, append-nil}
@@ -14,10 +14,11 @@ use Rattle.model.specs.Numbers.{isBlank}
 use Rattle.model.specs.Load.{keep, isComment, isSeparator, linesFrom, lines, wordsFrom, words}
 use Rattle.model.specs.Step.{blanksOf, tokenOf}
 use Rattle.text.specs.Parts.{part}
+use Rattle.text.specs.Lines.{NoLineFeed}
 use Rattle.text.specs.Words.{Skipped, WordEnd, NextWord}
 use Rattle.text.specs.Tokens.{TokenEnd, NextToken}
 use Rattle.text.proofs.Among.{among-fails}
-use Rattle.text.proofs.Parts.{part-more, part-first, part-length}
+use Rattle.text.proofs.Parts.{part-empty, part-more, part-first, part-length}
 
 -- TOKENS
 module _ (t : List ℕ) (i : ℕ) (done : length t ≤ i) where
@@ -135,3 +136,36 @@ module _ (t : List ℕ) (i : ℕ) (inside : i < length t) where
   pub line-more : (p : ℕ) → p ≤ i → ¬ (getD t i 0 ≡ 10) → linesFrom (part p i t) (drop i t) ≡ linesFrom (part p (i + 1) t) (drop (i + 1) t)
   unfolding linesFrom
   line-more p l e = rw (part-more p i t, add-one i, drop-cons t i 0) (simp (linesFrom, ne-eqb _ _ e))
+
+-- Bytes without LF belong to the line.
+pub line-goes-on : (t : List ℕ) (p i k : ℕ) → p ≤ i → i + k ≤ length t → NoLineFeed t i (i + k) →
+    linesFrom (part p i t) (drop i t) ≡ linesFrom (part p (i + k) t) (drop (i + k) t)
+line-goes-on t p i zero l h n = let e : i ≡ i + 0 = omega arith in ap (λ (m : ℕ). linesFrom (part p m t) (drop m t)) e
+line-goes-on t p i (suc k) l h n =
+    let e : i + 1 + k ≡ i + suc k = omega arith in
+    line-more t i (omega arith) p l (n i (omega arith) (omega arith))
+    ∙ line-goes-on t p (i + 1) k (omega arith) (omega arith) (λ j a b. n j (omega arith) (omega arith))
+    ∙ ap (λ (m : ℕ). linesFrom (part p m t) (drop m t)) e
+
+-- From the line's start on.
+pub line-begins : (t : List ℕ) (p i : ℕ) → p ≤ i → i ≤ length t → NoLineFeed t p i → lines (drop p t) ≡ linesFrom (part p i t) (drop i t)
+line-begins t p i l h n =
+    let e : p + (i - p) ≡ i = omega arith in
+    ap (λ (w : List ℕ). linesFrom w (drop p t)) (sym (part-empty p t))
+    ∙ line-goes-on t p p (i - p) (omega arith) (omega arith) (λ j a b. n j a (omega arith))
+    ∙ ap (λ (m : ℕ). linesFrom (part p m t) (drop m t)) e
+
+-- One byte more, or a block more.
+pub feeds-more : (t : List ℕ) (a b c : ℕ) → NoLineFeed t a b → NoLineFeed t b c → NoLineFeed t a c
+feeds-more t a b c n m j l h = go (decLt j b)
+  where
+    go : Dec (j < b) → ¬ (getD t j 0 ≡ 10)
+    go (yes q) = n j l q
+    go (no q) = m j (omega arith) h
+
+pub feed-next : (t : List ℕ) (a b : ℕ) → NoLineFeed t a b → ¬ (getD t b 0 ≡ 10) → NoLineFeed t a (b + 1)
+feed-next t a b n h j l q = go (decLt j b)
+  where
+    go : Dec (j < b) → ¬ (getD t j 0 ≡ 10)
+    go (yes z) = n j l z
+    go (no z) = let e : j ≡ b = omega arith in λ x. h (ap (λ (k : ℕ). getD t k 0) (sym e) ∙ x)
