@@ -10,7 +10,7 @@ ghost use Rattle.model.specs.declared.LoadReply.the-variants.{Refused};
 ghost use Rattle.model.specs.Parameters.{limit, Fit};
 ghost use Rattle.model.specs.Load.{lines, textReply, loadReply, imageAfter, loadNumbers, numbersOfLoad};
 ghost use Rattle.image.specs.Forms.{formTable};
-ghost use Rattle.names.specs.Keys.{keyTable};
+ghost use Rattle.names.specs.Keys.{keyTable, Slots};
 ghost use Rattle.loader.specs.Passes.{Ready, Filled};
 use cells::limits::limit_of;
 use cells::limits::parameter_refusal;
@@ -19,6 +19,7 @@ use model::LoadReply;
 use model::Parameters;
 use model::Record;
 use names::key_table;
+use names::slot_table;
 use parser::line::Parsed;
 use parser::line::parse_line;
 use text::lines::count_lines;
@@ -47,18 +48,19 @@ fn put_cell(image: &mut [u32], at: usize, head: u32, first: u32, second: u32, th
 }
 
 // A pass over the lines of a text: what it is refused for, or the count of its lines. Only a pass that writes fills the cells of an empty image.
-// The tables are those of `key_table` and `form_table`.
+// The tables are those of `key_table`, `slot_table` and `form_table`.
 fn parse_lines(
     text: &[u8],
     p: Parameters,
     m: u32,
     keys: &[u64],
+    slots: &[u8],
     forms: &[u32],
     write: bool,
     image: &mut [u32],
 ) -> LoadReply
     requires { ⌜ Fit p × (m ≡ limit (p .k)) ⌝ }
-    requires { ⌜ (now keys ≡ keyTable) × (now forms ≡ formTable) ⌝ }
+    requires { ⌜ (now keys ≡ keyTable) × Slots (now slots) × (now forms ≡ formTable) ⌝ }
     requires { ⌜ (length (now image) ≡ 4 * p .t) × Ready write p (now image) ⌝ }
     ensures { λ r. ⌜ r ≡ textReply p (now (text .entry)) ⌝ }
     ensures image { λ r. ⌜ Filled write p (now (text .entry)) (now (image .entry)) (now (image .exit)) r ⌝ }
@@ -73,7 +75,7 @@ fn parse_lines(
         if i == t {
             return LoadReply::Refused(8, 0);
         }
-        let parsed = parse_line(&text[at..end], p, m, keys, forms);
+        let parsed = parse_line(&text[at..end], p, m, keys, slots, forms);
         match parsed {
             Parsed::Fault(k) => {
                 return refuse_line(text, next, i, t, k);
@@ -109,11 +111,12 @@ fn load_lines(text: &[u8], p: Parameters, m: u32, image: &mut [u32]) -> LoadRepl
     ensures image { λ r. ⌜ now (image .exit) ≡ imageAfter p (now (text .entry)) (now (image .entry)) r ⌝ }
 {
     let keys = key_table();
+    let slots = slot_table();
     let forms = form_table();
-    let reply = parse_lines(text, p, m, &keys, &forms, false, image);
+    let reply = parse_lines(text, p, m, &keys, &slots, &forms, false, image);
     if let LoadReply::Accepted(_) = reply {
         clear(image);
-        return parse_lines(text, p, m, &keys, &forms, true, image);
+        return parse_lines(text, p, m, &keys, &slots, &forms, true, image);
     }
     reply
 }

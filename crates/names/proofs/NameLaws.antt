@@ -14,7 +14,7 @@ use borrow.Author.Tests.{eq-eqb, ne-eqb, eqb-true, ltb-true, lt-leb}
 use Rattle.model.specs.Numbers.{bytes, upper}
 use Rattle.model.specs.Load.{sameWord, lookupFrom, names, lookup}
 use Rattle.model.proofs.Fits.{both, and-both, by-cond}
-use Rattle.names.specs.Keys.{keyFrom, keyOf, keyTable, placeFrom}
+use Rattle.names.specs.Keys.{keyFrom, keyOf, keyTable, slotOf, slotted, placeFrom}
 
 -- BYTE BY BYTE
 pub other-length : (w n : List ℕ) → ¬ (length w ≡ length n) → sameWord w n ≡ false
@@ -202,13 +202,39 @@ pub table-length : length keyTable ≡ 50
 unfolding keyTable names
 table-length = refl
 
--- The walk over the keys.
-module _ (n k : ℕ) (xs : List ℕ) (i : ℕ) where
-  pub place-here : i < length xs → getD xs i 0 ≡ k → placeFrom n k (drop i xs) ≡ n
-  place-here h e = rw (drop-cons xs i 0 h) (key-here n k _ _ (eq-eqb _ _ e))
+-- A KEY BY ITS SLOT
+slot-rule : (i : ℕ) (slots ks : List ℕ) → slotted i slots ks ≡ true → (j : ℕ) → j < length ks → getD slots (slotOf (getD ks j 0)) 0 ≡ i + j
+unfolding slotted
+slot-rule i slots [] h j l = absurd (omega arith)
+slot-rule i slots (k ∷ ks) h zero l =
+    let e : i ≡ i + 0 = omega arith in
+    eqb-true (getD slots (slotOf k) 0) i (both (eqb (getD slots (slotOf k) 0) i) (slotted (suc i) slots ks) h .0) ∙ e
+slot-rule i slots (k ∷ ks) h (suc j) l =
+    let e : suc i + j ≡ i + suc j = omega arith in
+    slot-rule (suc i) slots ks (both (eqb (getD slots (slotOf k) 0) i) (slotted (suc i) slots ks) h .1) j (omega arith) ∙ e
 
-  pub place-later : i < length xs → ¬ (getD xs i 0 ≡ k) → placeFrom n k (drop i xs) ≡ placeFrom (suc n) k (drop (i + 1) xs)
-  place-later h e = rw (add-one, drop-cons xs i 0 h) (key-later n k _ _ (ne-eqb _ _ e))
+-- A key that stands nowhere, and one that stands first at s.
+absent : (n k : ℕ) (xs : List ℕ) → ((j : ℕ) → j < length xs → ¬ (getD xs j 0 ≡ k)) → placeFrom n k xs ≡ 0
+absent n k [] h = no-place n k
+absent n k (x ∷ xs) h = key-later n k x xs (ne-eqb x k (h 0 (omega arith))) ∙ absent (suc n) k xs (λ j l. h (suc j) (omega arith))
 
-  pub place-end : length xs ≤ i → placeFrom n k (drop i xs) ≡ 0
-  place-end h = rw (drop-of-length-le xs h) (no-place n k)
+present : (n k : ℕ) (xs : List ℕ) (s : ℕ) → s < length xs → getD xs s 0 ≡ k → ((j : ℕ) → j < s → ¬ (getD xs j 0 ≡ k)) → placeFrom n k xs ≡ s + n
+present n k [] s l e h = absurd (omega arith)
+present n k (x ∷ xs) zero l e h = key-here n k x xs (eq-eqb x k e) ∙ sym (zero-add n)
+present n k (x ∷ xs) (suc s) l e h =
+    let q : s + suc n ≡ suc s + n = omega arith in
+    key-later n k x xs (ne-eqb x k (h 0 (omega arith))) ∙ present (suc n) k xs s (omega arith) e (λ j m. h (suc j) (omega arith)) ∙ q
+
+module _ (slots : List ℕ) (h : slotted 0 slots keyTable ≡ true) (key s : ℕ) (e : getD slots (slotOf key) 0 ≡ s) where
+  -- No other place than the slot's has the key.
+  only : (j : ℕ) → j < length keyTable → getD keyTable j 0 ≡ key → s ≡ j
+  only j l q = sym e ∙ ap (λ (k : ℕ). getD slots (slotOf k) 0) (sym q) ∙ slot-rule 0 slots keyTable h j l ∙ zero-add j
+
+  pub slot-found : s < length keyTable → getD keyTable s 0 ≡ key → placeFrom 5 key keyTable ≡ s + 5
+  slot-found l q = present 5 key keyTable s l q (λ j m z. let o = only j (omega arith) z in absurd (omega arith))
+
+  pub slot-past : length keyTable ≤ s → placeFrom 5 key keyTable ≡ 0
+  slot-past l = absent 5 key keyTable (λ j m z. let o = only j m z in absurd (omega arith))
+
+  pub slot-other : ¬ (getD keyTable s 0 ≡ key) → placeFrom 5 key keyTable ≡ 0
+  slot-other n = absent 5 key keyTable (λ j m z. n (ap (λ (x : ℕ). getD keyTable x 0) (only j m z) ∙ z))

@@ -3,7 +3,7 @@ ghost use mathlib.Core.Path.{_≡_};
 ghost use Prim.Native.Nat.{_≤_};
 ghost use lib.ListN.{length};
 ghost use Rattle.model.specs.Load.{sameWord, lookup};
-ghost use Rattle.names.specs.Keys.{keyOf, keyTable, placeFrom};
+ghost use Rattle.names.specs.Keys.{keyOf, keyTable, Slots, placeFrom};
 use text::bytes::upper;
 
 // The keys of the names from number 5, IN, on: each name's bytes in hexadecimal, behind a 1. The four names before it are longer.
@@ -60,11 +60,140 @@ const KEYS: [u64; 50] = [
     0x1415352,
 ];
 
-// The table, which a call makes once and lends.
+// The place of each key among the keys, at the remainder that `find_key` takes of it; no two keys have the same.
+const SLOTS: [u8; 119] = [
+    0,
+    43,
+    0,
+    0,
+    26,
+    0,
+    37,
+    47,
+    21,
+    0,
+    0,
+    0,
+    0,
+    49,
+    0,
+    0,
+    0,
+    0,
+    17,
+    0,
+    0,
+    35,
+    0,
+    0,
+    0,
+    10,
+    0,
+    0,
+    9,
+    0,
+    0,
+    0,
+    0,
+    0,
+    0,
+    0,
+    12,
+    31,
+    0,
+    46,
+    0,
+    0,
+    39,
+    0,
+    13,
+    48,
+    8,
+    0,
+    11,
+    0,
+    0,
+    30,
+    4,
+    19,
+    0,
+    0,
+    0,
+    0,
+    0,
+    0,
+    0,
+    0,
+    0,
+    0,
+    0,
+    5,
+    33,
+    15,
+    0,
+    0,
+    0,
+    0,
+    18,
+    0,
+    0,
+    29,
+    0,
+    20,
+    0,
+    27,
+    0,
+    22,
+    0,
+    0,
+    23,
+    0,
+    0,
+    0,
+    16,
+    0,
+    0,
+    14,
+    42,
+    0,
+    25,
+    2,
+    36,
+    24,
+    7,
+    44,
+    41,
+    32,
+    0,
+    0,
+    38,
+    1,
+    0,
+    3,
+    28,
+    0,
+    0,
+    34,
+    6,
+    0,
+    45,
+    0,
+    40,
+    0,
+    0,
+];
+
+// The tables, which a call makes once and lends.
 pub fn key_table() -> [u64; 50]
     ensures { λ r. ⌜ r ≡ keyTable ⌝ }
 {
     KEYS
+}
+
+pub fn slot_table() -> [u8; 119]
+    ensures { λ r. ⌜ Slots r ⌝ }
+{
+    SLOTS
 }
 
 // The word is this name.
@@ -98,19 +227,20 @@ fn word_key(w: &[u8]) -> u64
     key
 }
 
-// The number of the instruction with this key; 0 if there is none.
-fn find_key(keys: &[u64], key: u64) -> u32
-    requires { ⌜ now keys ≡ keyTable ⌝ }
+// The number of the instruction with this key; 0 if there is none. Only one place can have it.
+fn find_key(keys: &[u64], slots: &[u8], key: u64) -> u32
+    requires { ⌜ (now keys ≡ keyTable) × Slots (now slots) ⌝ }
     ensures { λ r. ⌜ r ≡ placeFrom 5 key keyTable ⌝ }
 {
-    let mut i = 0;
-    while i < keys.len() {
-        if keys[i] == key {
-            return i as u32 + 5;
-        }
-        i += 1;
+    let r = (key % 9284 % 119) as usize;
+    let i = slots[r] as usize;
+    if keys.len() <= i {
+        return 0;
     }
-    0
+    if keys[i] != key {
+        return 0;
+    }
+    i as u32 + 5
 }
 
 // The number of the instruction with a name of eight bytes or more.
@@ -134,12 +264,12 @@ fn find_long(w: &[u8]) -> u32
 }
 
 // The number of the instruction that the word names; 0 if it names none.
-pub fn find_name(w: &[u8], keys: &[u64]) -> u32
-    requires { ⌜ now keys ≡ keyTable ⌝ }
+pub fn find_name(w: &[u8], keys: &[u64], slots: &[u8]) -> u32
+    requires { ⌜ (now keys ≡ keyTable) × Slots (now slots) ⌝ }
     ensures { λ r. ⌜ r ≡ lookup (now (w .entry)) ⌝ }
 {
     if 7 < w.len() {
         return find_long(w);
     }
-    find_key(keys, word_key(w))
+    find_key(keys, slots, word_key(w))
 }

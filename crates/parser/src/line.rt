@@ -9,7 +9,7 @@ ghost use Rattle.model.specs.Parameters.{limit, Fit};
 ghost use Rattle.model.specs.Instructions.{rowOf};
 ghost use Rattle.model.specs.Load.{words, fault, lineOf};
 ghost use Rattle.image.specs.Forms.{packed, formTable};
-ghost use Rattle.names.specs.Keys.{keyTable};
+ghost use Rattle.names.specs.Keys.{keyTable, Slots};
 ghost use Rattle.parser.specs.Lines.{formCount, parsedOf, counted};
 use arguments::Placed;
 use arguments::argument_word;
@@ -105,10 +105,17 @@ fn parse_arguments(l: &[u8], from: usize, number: u32, forms: u32, p: Parameters
     Parsed::Words(number, arguments[0], arguments[1], arguments[2])
 }
 
-// The line as a cell. The tables are those of `key_table` and `form_table`.
-pub fn parse_line(l: &[u8], p: Parameters, m: u32, keys: &[u64], forms: &[u32]) -> Parsed
+// The line as a cell. The tables are those of `key_table`, `slot_table` and `form_table`.
+pub fn parse_line(
+    l: &[u8],
+    p: Parameters,
+    m: u32,
+    keys: &[u64],
+    slots: &[u8],
+    forms: &[u32],
+) -> Parsed
     requires { ⌜ Fit p × (m ≡ limit (p .k)) ⌝ }
-    requires { ⌜ (now keys ≡ keyTable) × (now forms ≡ formTable) ⌝ }
+    requires { ⌜ (now keys ≡ keyTable) × Slots (now slots) × (now forms ≡ formTable) ⌝ }
     ensures { λ r. ⌜ r ≡ parsedOf (lineOf p (now (l .entry))) ⌝ }
 {
     let w = next_word(l, 0);
@@ -117,7 +124,7 @@ pub fn parse_line(l: &[u8], p: Parameters, m: u32, keys: &[u64], forms: &[u32]) 
     if start == end {
         return Parsed::Words(44, 0, 0, 0);
     }
-    let number = find_name(&l[start..end], keys);
+    let number = find_name(&l[start..end], keys, slots);
     if number == 0 {
         return Parsed::Fault(11);
     }

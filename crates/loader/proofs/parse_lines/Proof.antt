@@ -18,17 +18,17 @@ use Rattle.loader.proofs.parse_lines.Statement.{statement}
 use Rattle.loader.proofs.parse_lines.Tie as tie
 
 abbrev Inv-loop : tie.InvT-loop
-Inv-loop text p m keys forms write image₀ t at₀ i₀ image at i = (length image ≡ 4 * p .t) × Standing write p text image₀ image at i
+Inv-loop text p m keys slots forms write image₀ t at₀ i₀ image at i = (length image ≡ 4 * p .t) × Standing write p text image₀ image at i
 
 abbrev μ-loop : tie.MeasureT-loop
-μ-loop text p m keys forms write image₀ t at₀ i₀ image at i = length text - at
+μ-loop text p m keys slots forms write image₀ t at₀ i₀ image at i = length text - at
 
 cast-t : tie.Need-cast-t Inv-loop μ-loop
 cast-t c = search needs
 
 loop-holds : tie.Need-loop-holds Inv-loop μ-loop
 loop-holds c =
-    let s = c .before .before .before .before .before in
+    let s = c .before .before .before .before .before .before in
     (s .pre .1 .1 .0, at-start (s .args .write) (s .args .p) (now (s .args .text)) (now (s .args .image)) (s .pre .1 .1 .1))
 
 next-line-requires : tie.Need-next-line-requires Inv-loop μ-loop
@@ -37,13 +37,13 @@ next-line-requires c κs = search needs
 same-length : tie.Need-same-length Inv-loop μ-loop
 same-length c =
     let at = c .before .before .before in
-    at .loop .inv .0 ∙ sym (at .before .before .before .before .before .before .pre .1 .1 .0)
+    at .loop .inv .0 ∙ sym (at .before .before .before .before .before .before .before .pre .1 .1 .0)
 
 returns : tie.Need-returns Inv-loop μ-loop
 returns c =
     let e = c in
     let at = e .before .before .before in
-    let s = at .before .before .before .before .before .before in
+    let s = at .before .before .before .before .before .before .before in
     let write = s .args .write in
     let p = s .args .p in
     let text = now (s .args .text) in
@@ -72,13 +72,13 @@ refuse-line-requires c κs = search needs
 same-length-2 : tie.Need-same-length-2 Inv-loop μ-loop
 same-length-2 c =
     let at = c .before .before .before .before .before .before .before .before .before in
-    at .loop .inv .0 ∙ sym (at .before .before .before .before .before .before .pre .1 .1 .0)
+    at .loop .inv .0 ∙ sym (at .before .before .before .before .before .before .before .pre .1 .1 .0)
 
 returns-2 : tie.Need-returns-2 Inv-loop μ-loop
 returns-2 c =
     let e = c .before .before .before .before .before .before in
     let at = e .before .before .before in
-    let s = at .before .before .before .before .before .before in
+    let s = at .before .before .before .before .before .before .before in
     let write = s .args .write in
     let p = s .args .p in
     let text = now (s .args .text) in
@@ -106,7 +106,7 @@ add-i : tie.Need-add-i Inv-loop μ-loop
 add-i c =
     let e = c .before .before .before .before .before .before in
     let at = e .before .before .before in
-    let l = limits _ (at .before .before .before .before .before .before .pre .0 .0) in
+    let l = limits _ (at .before .before .before .before .before .before .before .pre .0 .0) in
     record { fits = omega (arith, at .loop .inv .1 .few, l .t-high) }
 
 loop-less : tie.Need-loop-less Inv-loop μ-loop
@@ -116,7 +116,7 @@ loop-again : tie.Need-loop-again Inv-loop μ-loop
 loop-again c =
     let e = c .before .before .before .before .before .before in
     let at = e .before .before .before in
-    let s = at .before .before .before .before .before .before in
+    let s = at .before .before .before .before .before .before .before in
     let write = s .args .write in
     let p = s .args .p in
     let text = now (s .args .text) in
@@ -138,12 +138,12 @@ loop-again c =
 same-length-3 : tie.Need-same-length-3 Inv-loop μ-loop
 same-length-3 c =
     let at = c .before in
-    at .loop .inv .0 ∙ sym (at .before .before .before .before .before .before .pre .1 .1 .0)
+    at .loop .inv .0 ∙ sym (at .before .before .before .before .before .before .before .pre .1 .1 .0)
 
 returns-3 : tie.Need-returns-3 Inv-loop μ-loop
 returns-3 c =
     let at = c .before in
-    let s = at .before .before .before .before .before .before in
+    let s = at .before .before .before .before .before .before .before in
     let write = s .args .write in
     let p = s .args .p in
     let text = now (s .args .text) in

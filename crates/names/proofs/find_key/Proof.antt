@@ -1,78 +1,67 @@
--- `find_key` meets its contract: the key has none of the places passed. Assumes nothing.
-use Prim.Native.Nat.{ℕ, suc, _+_, _-_, _≤_, _<_}
+-- `find_key` meets its contract: only the place at the key's slot can have the key. Assumes nothing.
+use Prim.Native.Nat.{ℕ, _<_}
 use mathlib.Core.Path.{_≡_, refl, sym, ap, _∙_}
 use native.Mathlib.Omega.{arith}
-use lib.ListN.{length, drop}
+use lib.ListN.{length, getD}
 use borrow.Author.Needs.{needs}
-use Rattle.names.specs.Keys.{keyTable, placeFrom}
-use Rattle.names.proofs.NameLaws.{table-length, place-here, place-later, place-end}
+use denote.Ref.{now}
+use Rattle.names.specs.Keys.{keyTable, slotOf}
+use Rattle.names.proofs.NameLaws.{table-length, slot-found, slot-past, slot-other}
 use Rattle.names.proofs.find_key.Statement.{statement}
 use Rattle.names.proofs.find_key.Tie as tie
 
-abbrev Inv-loop : tie.InvT-loop
-Inv-loop keys key i₀ i = (i ≤ 50) × (keys ≡ keyTable) × (placeFrom 5 key keyTable ≡ placeFrom (i + 5) key (drop i keyTable))
+-- What stands at the key's slot.
+abbrev place : tie.Start → ℕ
+place s = getD (now (s .args .slots)) (slotOf (s .args .key)) 0
 
-abbrev μ-loop : tie.MeasureT-loop
-μ-loop keys key i₀ i = length keys - i
+-- Behind the first test it is a place of the table.
+inside : (e : tie.Else1) → place (e .before .before) < 50
+inside e = omega (arith, e .if1 .left, ap length (e .before .before .pre .0) ∙ table-length)
 
-loop-holds : tie.Need-loop-holds Inv-loop μ-loop
-loop-holds c = (search needs, c .pre, refl)
+shared-slice-read-i : tie.Need-shared-slice-read-i
+shared-slice-read-i c = search needs
 
-mul-if1 : tie.Need-mul-if1 Inv-loop μ-loop
-mul-if1 c = search needs
+cast-i : tie.Need-cast-i
+cast-i c = let b = c .shared-slice-known .given (slotOf (c .before .args .key)) .fits in record { fits = omega (arith, b) }
 
-shared-slice-read-if1 : tie.Need-shared-slice-read-if1 Inv-loop μ-loop
-shared-slice-read-if1 c = search needs
-
-cast-result : tie.Need-cast-result Inv-loop μ-loop
-cast-result c = search needs
-
-add-result : tie.Need-add-result Inv-loop μ-loop
-add-result c = search needs
-
-returns : tie.Need-returns Inv-loop μ-loop
+returns : tie.Need-returns
 returns c =
-    let at = c .before .before .before in
-    let inv = at .loop .inv in
-    sym (inv .2 ∙ place-here _ _ keyTable (at .loop .i) (rw (sym (inv .1)) (search needs)) (rw (sym (inv .1)) (c .if1 .taken)))
+    let s = c .before .before in
+    sym (slot-past (now (s .args .slots)) (s .pre .1 .1) (s .args .key) (place s) refl (rw (sym (s .pre .0)) (c .if1 .taken)))
 
-add-i : tie.Need-add-i Inv-loop μ-loop
-add-i c = search needs
+mul-if2 : tie.Need-mul-if2
+mul-if2 c = search needs
 
-loop-less : tie.Need-loop-less Inv-loop μ-loop
-loop-less c = search needs
+shared-slice-read-if2 : tie.Need-shared-slice-read-if2
+shared-slice-read-if2 c = search needs
 
-loop-again : tie.Need-loop-again Inv-loop μ-loop
-loop-again c =
-    let at = c .before .before .before in
-    let inv = at .loop .inv in
-    let key = at .before .args .key in
-    let i = at .loop .i in
-    let l : i < length keyTable = rw (sym (inv .1)) (search needs) in
-    let n : suc (i + 5) ≡ i + 1 + 5 = omega arith in (
-      omega (arith, table-length),
-      inv .1,
-      inv .2 ∙ place-later (i + 5) key keyTable i l (rw (sym (inv .1)) (c .if1 .left)) ∙ ap (λ (m : ℕ). placeFrom m key (drop (i + 1) keyTable)) n,
-    )
-
-returns-2 : tie.Need-returns-2 Inv-loop μ-loop
+returns-2 : tie.Need-returns-2
 returns-2 c =
-    let inv = c .before .loop .inv in
-    sym (inv .2 ∙ place-end _ _ keyTable (c .before .loop .i) (rw (sym (inv .1)) (search needs)))
+    let s = c .before .before .before .before in
+    sym (slot-other (now (s .args .slots)) (s .pre .1 .1) (s .args .key) (place s) refl (rw (sym (s .pre .0)) (c .if2 .taken)))
+
+cast-result : tie.Need-cast-result
+cast-result c = let l = inside (c .before .before) in record { fits = omega (arith, l) }
+
+add-result : tie.Need-add-result
+add-result c = let l = inside (c .before .before) in record { fits = omega (arith, l) }
+
+returns-3 : tie.Need-returns-3
+returns-3 c =
+    let s = c .before .before .before .before in
+    let l : place s < length keyTable = omega (arith, inside (c .before .before), table-length) in
+    sym (slot-found (now (s .args .slots)) (s .pre .1 .1) (s .args .key) (place s) refl l (rw (sym (s .pre .0)) (c .if2 .left)))
 
 pub find-key-spec : {M : Type 1} → statement M
 find-key-spec =
     tie.close
     (tie.spec
-    Inv-loop
-    μ-loop
-    loop-holds
-    mul-if1
-    shared-slice-read-if1
+    shared-slice-read-i
+    cast-i
+    returns
+    mul-if2
+    shared-slice-read-if2
+    returns-2
     cast-result
     add-result
-    returns
-    add-i
-    loop-less
-    loop-again
-    returns-2)
+    returns-3)

@@ -23,7 +23,7 @@ find-key-requires c κs = search needs
 
 returns-2 : tie.Need-returns-2
 returns-2 c =
-    let at = c .before .before .before in
+    let at = c .before .before .before .before in
     let w = now (at .before .before .args .w) in
     c .find-key .ensures
     ∙ ap (λ (k : ℕ). placeFrom 5 k keyTable) (c .before .word-key .ensures)

@@ -21,7 +21,7 @@ next-word-requires c κs = search needs
 
 returns : tie.Need-returns
 returns c =
-    let a = c .before .before .before .before .before .args in
+    let a = c .before .before .before .before .before .before .args in
     sym (ap (λ (ws : List (List ℕ)). parsedOf (lineCell (a .p) ws)) (c .before .next-word .ensures .none (c .if1 .taken)) ∙ ap parsedOf (line-empty (a .p)))
 
 sub-find-name : tie.Need-sub-find-name
@@ -40,7 +40,7 @@ returns-2 : tie.Need-returns-2
 returns-2 c =
     let f = c .before in
     let e = f .before .before in
-    let a = e .before .before .before .before .before .args in
+    let a = e .before .before .before .before .before .before .args in
     let l = now (a .l) in
     let w = e .before .next-word in
     sym (ap (λ (ws : List (List ℕ)). parsedOf (lineCell (a .p) ws)) (first-word (w .ensures) (e .if1 .left))
@@ -50,11 +50,11 @@ forms-of-requires : tie.Need-forms-of-requires
 forms-of-requires c κs =
     let f = c .before in
     let e = f .before .before in
-    let s = e .before .before .before .before .before in
+    let s = e .before .before .before .before .before .before in
     let w = part (e .before .next-word .result .start) (e .before .next-word .result .end) (now (s .args .l)) in
     let q = f .find-name .ensures in
     let h = lookup-number w (λ z. c .if2 .left (q ∙ z)) in
-    (s .pre .1 .1, omega (arith, q, h .0), omega (arith, q, h .1))
+    (s .pre .1 .2, omega (arith, q, h .0), omega (arith, q, h .1))
 
 parse-arguments-requires : tie.Need-parse-arguments-requires
 parse-arguments-requires c κs = search needs
@@ -64,7 +64,7 @@ returns-3 c =
     let k = c .before .before in
     let f = k .before in
     let e = f .before .before in
-    let a = e .before .before .before .before .before .args in
+    let a = e .before .before .before .before .before .before .args in
     let l = now (a .l) in
     let w = e .before .next-word in
     let word = part (w .result .start) (w .result .end) l in
