@@ -41,7 +41,7 @@ use Rattle.model.specs.Load.{
   numbersOfLoad,
   placed,
   rightLines,
-  sizeChecks,
+  textChecks,
   textReply,
   words,
 }
@@ -152,11 +152,11 @@ module _ (p : Parameters) (text old : List ℕ) where
   unfolding loadLines loadLine
   by-number e = ap (λ (r : ℕ). shown r (length (lines text)) (rightLines p (lines text))) (sym e)
 
-  early : (k : ℕ) → refusalOf (sizeChecks p text old) ≡ suc k → loadRefusal p text old ≡ suc k
+  early : (k : ℕ) → refusalOf (textChecks p text old) ≡ suc k → loadRefusal p text old ≡ suc k
   unfolding loadRefusal
   early k e = simp (loadRefusal, e)
 
-  late : refusalOf (sizeChecks p text old) ≡ 0 → loadRefusal p text old ≡ firstFault p (lines text)
+  late : refusalOf (textChecks p text old) ≡ 0 → loadRefusal p text old ≡ firstFault p (lines text)
   unfolding loadRefusal
   late e = simp (loadRefusal, e)
 
@@ -168,7 +168,7 @@ module _ (p : Parameters) (text old : List ℕ) where
       ∙ by-number (early k (refusal-first (loadChecks p text old) _ (λ z. absurd (omega (arith, sym e ∙ z))) ∙ e))
 
   module _ (e : refusalOf (loadChecks p text old) ≡ 0) where
-    behind : refusalOf (sizeChecks p text old) ≡ cond (leb (length (lines text)) (p .t)) 0 8
+    behind : refusalOf (textChecks p text old) ≡ cond (leb (length (lines text)) (p .t)) 0 8
     behind = refusal-later (loadChecks p text old) _ (all-fit (loadChecks p text old) checks-numbered e)
 
     reply : loadReply p text old ≡ cond (leb (length (lines text)) (p .t)) (linesReply p 0 (lines text)) (Refused 8 0)

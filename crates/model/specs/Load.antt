@@ -210,12 +210,12 @@ rightLines p [] = 0
 rightLines p (l ∷ ls) = elim (lineOf p l) [ fine c ↦ suc (rightLines p ls) | fault k ↦ 0 ]
 
 -- 1 to 7; "8 more than T lines"
-abbrev pub sizeChecks : Parameters → (text old : List ℕ) → List Check
-sizeChecks p text old = loadChecks p text old ++ (8 unless (leb (length (lines text)) (p .t)) ∷ [])
+abbrev pub textChecks : Parameters → (text old : List ℕ) → List Check
+textChecks p text old = loadChecks p text old ++ (8 unless (leb (length (lines text)) (p .t)) ∷ [])
 
 -- The refusal: 1 to 8, "Then the first faulty line"; 0 if there is none.
 unfoldable pub loadRefusal : Parameters → (text old : List ℕ) → ℕ
-loadRefusal p text old = elim (refusalOf (sizeChecks p text old)) [ zero ↦ firstFault p (lines text) | suc k ↦ suc k ]
+loadRefusal p text old = elim (refusalOf (textChecks p text old)) [ zero ↦ firstFault p (lines text) | suc k ↦ suc k ]
 
 -- "An accepted load gives 0 and the count of lines."
 unfoldable pub loadLines : Parameters → (text old : List ℕ) → ℕ

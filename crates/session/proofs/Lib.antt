@@ -1,3 +1,4 @@
 pub mod Advance
 pub mod Lines
 pub mod Printed
+pub mod Whole

@@ -74,7 +74,7 @@ module _ (image input : List ℕ) (n cycles : ℕ) (r : Record) (registers cells
   abbrev first : Granted
   first = granted image input r registers cells (sliceCall cycles)
 
-  lines-last : isFull (first .reply .outcome) ≡ false → grantLines image input (suc n) cycles r registers cells ≡ replyLines first ++ []
+  pub lines-last : isFull (first .reply .outcome) ≡ false → grantLines image input (suc n) cycles r registers cells ≡ replyLines first ++ []
   unfolding grantLines
   lines-last h = rw (h, grantLines)
 
@@ -167,7 +167,7 @@ module _ (p : Parameters) (image : List ℕ) (registers cells : List ℤ) where
       go zero h = let z = ap refusalOf (sym (checks-alike a b)) ∙ h in rw (started, h, z) (record { reply = refl; memory = λ e. (refl, refl) })
       go (suc k) h = let z = ap refusalOf (sym (checks-alike a b)) ∙ h in rw (started, h, z) (record { reply = refl; memory = λ e. absurd (omega arith) })
 
-  start-fresh : started p image registers cells .reply .refusal ≡ 0 → started p image registers cells .reply .rec ≡ freshRecord p
+  pub start-fresh : started p image registers cells .reply .refusal ≡ 0 → started p image registers cells .reply .rec ≡ freshRecord p
   unfolding started
   start-fresh = go (refusalOf (startChecks p image registers cells)) refl
     where
@@ -177,14 +177,14 @@ module _ (p : Parameters) (image : List ℕ) (registers cells : List ℤ) where
       go (suc k) h = rw (started, h) (λ e. absurd (omega arith))
 
 -- A start that is refused, and one that is not.
-start-stops : (image input : List ℕ) (s : Started) → eqb (s .reply .refusal) 0 ≡ false → startLines image input s ≡ startLine (s .reply .refusal)
+pub start-stops : (image input : List ℕ) (s : Started) → eqb (s .reply .refusal) 0 ≡ false → startLines image input s ≡ startLine (s .reply .refusal)
 start-stops image input s h = go (s .reply .refusal) refl
   where
     go : (k : ℕ) → s .reply .refusal ≡ k → startLines image input s ≡ startLine (s .reply .refusal)
     go zero e = absurd (false≢true (sym h ∙ eq-eqb (s .reply .refusal) 0 e))
     go (suc k) e = rw e
 
-start-goes : (image input : List ℕ) (s : Started) → s .reply .refusal ≡ 0 →
+pub start-goes : (image input : List ℕ) (s : Started) → s .reply .refusal ≡ 0 →
     startLines image input s ≡ grantLines image input 1_000_000_001 1_000_000_000 (s .reply .rec) (s .registers) (s .cells)
 start-goes image input s e = rw e
 
@@ -196,11 +196,11 @@ module _ (par text input : List ℕ) where
   abbrev begun : Started
   begun = started p (imageOf p text) (replicate (p .n) (pos 0)) (replicate (p .s) (pos 0))
 
-  printed-refused : (k i : ℕ) → loadReply p text (replicate (4 * p .t) 0) ≡ load.Refused k i → printed par text input ≡ refusalLine k i
+  pub printed-refused : (k i : ℕ) → loadReply p text (replicate (4 * p .t) 0) ≡ load.Refused k i → printed par text input ≡ refusalLine k i
   unfolding printed
   printed-refused k i h = rw (printed, h)
 
-  printed-loaded : (n : ℕ) → loadReply p text (replicate (4 * p .t) 0) ≡ load.Accepted n → printed par text input ≡ startLines (imageOf p text) input begun
+  pub printed-loaded : (n : ℕ) → loadReply p text (replicate (4 * p .t) 0) ≡ load.Accepted n → printed par text input ≡ startLines (imageOf p text) input begun
   unfolding printed
   printed-loaded n h = rw (printed, h)
 

@@ -1,0 +1,130 @@
+-- What `takrun` prints needs no more of a text or an input than one byte over the limit. Assumes nothing.
+use Prim.Native.Nat.{ℕ, zero, suc, _*_, _≤_, _<_}
+use mathlib.Core.Bool.{true, false, false≢true}
+use mathlib.Core.List.{List, [], _∷_, _++_, append-nil}
+use mathlib.Core.Path.{_≡_, refl, sym, ap, _∙_}
+use native.Mathlib.Decide.{decLt}
+use native.Mathlib.Omega.{arith}
+use lib.IntN.{ℤ, pos}
+use lib.ListN.{length, take, drop, replicate, take-append-drop, drop-of-length-le}
+use lib.Seq.{length-take-le}
+use borrow.Author.Tests.{le-leb, lt-leb, ne-eqb}
+use Rattle.model.proofs.Fits.{all-fit, fit-right, numbered-append, parameters-numbered, grant-accepted}
+use Rattle.model.proofs.Refusals.{load-refused-first, grant-refused}
+use Rattle.model.specs.Calls.{accountOf, Started, started, Granted, granted, recordFits, grantChecks, grantRefusal}
+use Rattle.model.specs.Grants.{Call}
+use Rattle.model.specs.Load.{lengthCheck, imageOf, loadChecks, loadReply}
+use Rattle.model.specs.Parameters.{Check, _unless_, refusalOf, parameterChecks}
+use Rattle.model.specs.Program.{isFull, replyLines, sliceCall, grantLines, startLines, printed}
+use Rattle.model.specs.Settings.{settings}
+use Rattle.model.specs.Step.{environmentOf}
+use Rattle.model.specs.declared.LoadReply.{LoadReply}
+use Rattle.model.specs.declared.LoadReply.the-variants as load
+use Rattle.model.specs.declared.Parameters.{Parameters}
+use Rattle.model.specs.declared.Record.{Record}
+use Rattle.session.proofs.Printed.{lines-last, start-fresh, start-stops, start-goes, printed-refused, printed-loaded}
+
+-- A TEXT THAT IS TOO LONG is refused, whatever it says.
+load-long : (p : Parameters) (old a b : List ℕ) → 65536 < length a → 65536 < length b →
+    (k : ℕ) × ((loadReply p a old ≡ load.Refused (suc k) 0) × (loadReply p b old ≡ load.Refused (suc k) 0))
+unfolding loadChecks
+load-long p old a b long-a long-b = go (refusalOf (parameterChecks p ++ later)) refl
+  where
+    later : List Check
+    later = lengthCheck p old ∷ 7 unless false ∷ []
+
+    same : (t : List ℕ) → 65536 < length t → loadChecks p t old ≡ parameterChecks p ++ later
+    same t l = rw (lt-leb (length t) 65536 l)
+
+    go : (k : ℕ) → refusalOf (parameterChecks p ++ later) ≡ k →
+        (k : ℕ) × ((loadReply p a old ≡ load.Refused (suc k) 0) × (loadReply p b old ≡ load.Refused (suc k) 0))
+    go zero h =
+        let numbered = numbered-append (parameterChecks p) later (parameters-numbered p) (omega arith, omega arith) in
+        absurd (false≢true (fit-right (parameterChecks p) later (all-fit (parameterChecks p ++ later) numbered h) .1 .0))
+    go (suc k) h =
+        (k, (load-refused-first p a old k (ap refusalOf (same a long-a) ∙ h), load-refused-first p b old k (ap refusalOf (same b long-b) ∙ h)))
+
+text-long : (par a b input : List ℕ) → 65536 < length a → 65536 < length b → printed par a input ≡ printed par b input
+text-long par a b input long-a long-b =
+    let (k, (x, y)) = load-long (settings par) (replicate (4 * settings par .t) 0) a b long-a long-b in
+    printed-refused par a input (suc k) 0 x ∙ sym (printed-refused par b input (suc k) 0 y)
+
+-- AN INPUT THAT IS TOO LONG: the first grant is refused.
+module _ (image : List ℕ) (r : Record) (fresh : r .place ≡ 0) (registers cells : List ℤ) (c : Call) (x y : List ℕ) (long-x : 65536 < length x)
+    (long-y : 65536 < length y) where
+  abbrev refusal : List ℕ → ℕ
+  refusal i = grantRefusal (environmentOf (r .parameters) image i) (accountOf r registers cells) c
+
+  refusal-long : refusal x ≡ refusal y
+  unfolding grantRefusal grantChecks recordFits
+  refusal-long =
+      rw (fresh, lt-leb (length x) 65536 long-x, lt-leb (length y) 65536 long-y, le-leb 0 (length x) (omega arith), le-leb 0 (length y) (omega arith))
+
+  grant-long : (granted image x r registers cells c ≡ granted image y r registers cells c) × (isFull (granted image y r registers cells c .reply .outcome) ≡ false)
+  grant-long = go (refusal y) refl
+    where
+      go : (k : ℕ) → refusal y ≡ k →
+          (granted image x r registers cells c ≡ granted image y r registers cells c) × (isFull (granted image y r registers cells c .reply .outcome) ≡ false)
+      go zero h =
+          let fits = grant-accepted (environmentOf (r .parameters) image y) (accountOf r registers cells) c h in
+          absurd (omega (arith, long-y, fits .input-length))
+      go (suc k) h =
+          let refused = grant-refused image y r registers cells c k h in
+          (grant-refused image x r registers cells c k (refusal-long ∙ h) ∙ sym refused, ap (λ (g : Granted). isFull (g .reply .outcome)) refused)
+
+lines-long : (image : List ℕ) (r : Record) → r .place ≡ 0 → (registers cells : List ℤ) (n cycles : ℕ) (x y : List ℕ) → 65536 < length x → 65536 < length y →
+    grantLines image x (suc n) cycles r registers cells ≡ grantLines image y (suc n) cycles r registers cells
+lines-long image r fresh registers cells n cycles x y long-x long-y =
+    let (same, full) = grant-long image r fresh registers cells (sliceCall cycles) x y long-x long-y in
+    lines-last image x n cycles r registers cells (ap (λ (g : Granted). isFull (g .reply .outcome)) same ∙ full)
+    ∙ ap (λ (g : Granted). replyLines g ++ []) same
+    ∙ sym (lines-last image y n cycles r registers cells full)
+
+start-long : (p : Parameters) (image : List ℕ) (registers cells : List ℤ) (x y : List ℕ) → 65536 < length x → 65536 < length y →
+    startLines image x (started p image registers cells) ≡ startLines image y (started p image registers cells)
+start-long p image registers cells x y long-x long-y = go (s .reply .refusal) refl
+  where
+    s : Started
+    s = started p image registers cells
+
+    go : (k : ℕ) → s .reply .refusal ≡ k → startLines image x s ≡ startLines image y s
+    go zero h =
+        let fresh = ap (λ (r : Record). r .place) (start-fresh p image registers cells h) in
+        start-goes image x s h
+        ∙ lines-long image (s .reply .rec) fresh (s .registers) (s .cells) 1_000_000_000 1_000_000_000 x y long-x long-y
+        ∙ sym (start-goes image y s h)
+    go (suc k) h = let stops = ne-eqb (s .reply .refusal) 0 (λ e. omega (arith, h, e)) in start-stops image x s stops ∙ sym (start-stops image y s stops)
+
+input-long : (par text x y : List ℕ) → 65536 < length x → 65536 < length y → printed par text x ≡ printed par text y
+input-long par text x y long-x long-y = go (loadReply (settings par) text (replicate (4 * settings par .t) 0)) refl
+  where
+    go : (l : LoadReply) → loadReply (settings par) text (replicate (4 * settings par .t) 0) ≡ l → printed par text x ≡ printed par text y
+    go (load.Refused k i) e = printed-refused par text x k i e ∙ sym (printed-refused par text y k i e)
+    go (load.Accepted n) e = printed-loaded par text x n e ∙ start-long (settings par) _ _ _ x y long-x long-y ∙ sym (printed-loaded par text y n e)
+
+-- THE FILES. All of one that is within the limit, and one byte more than the limit of one that is not.
+take-all : (s : List ℕ) → length s ≤ 65536 → take 65537 s ≡ s
+take-all s l =
+    let over : length s ≤ 65537 = omega (arith, l) in
+    sym (append-nil _) ∙ ap (λ (rest : List ℕ). take 65537 s ++ rest) (sym (drop-of-length-le s over)) ∙ take-append-drop 65537 s
+
+long-part : (s : List ℕ) → 65536 < length s → 65536 < length (take 65537 s)
+long-part s l = rw (length-take-le 65537 s (omega (arith, l))) (omega arith)
+
+text-part : (par text input : List ℕ) → printed par (take 65537 text) input ≡ printed par text input
+text-part par text input = go (decLt 65536 (length text))
+  where
+    go : Dec (65536 < length text) → printed par (take 65537 text) input ≡ printed par text input
+    go (yes l) = text-long par (take 65537 text) text input (long-part text l) l
+    go (no g) = ap (λ (t : List ℕ). printed par t input) (take-all text (omega (arith, g)))
+
+input-part : (par text input : List ℕ) → printed par text (take 65537 input) ≡ printed par text input
+input-part par text input = go (decLt 65536 (length input))
+  where
+    go : Dec (65536 < length input) → printed par text (take 65537 input) ≡ printed par text input
+    go (yes l) = input-long par text (take 65537 input) input (long-part input l) l
+    go (no g) = ap (λ (t : List ℕ). printed par text t) (take-all input (omega (arith, g)))
+
+-- The first 65,537 bytes of text and input give what the whole files give.
+pub whole-files : (par text input : List ℕ) → printed par (take 65537 text) (take 65537 input) ≡ printed par text input
+whole-files par text input = text-part par text (take 65537 input) ∙ input-part par text input
