@@ -2,8 +2,8 @@
 
 Each edit is of src/ or specs/, so that the proof of the right program meets the wrong one; PROOF_PARTS has those that follow it in a proof.
 Each old text is in its file exactly once, as `rt must-fail` asks. Each edit that docs/ARCHITECTURE.md names is there. And `rt ci`, which the
-gate runs before this test, refused each for more than its proof's form: its log, target/must-fail/CRATE/LABEL/.log, is there and has no
-name of a proof obligation that the wrong program has not got. --without-logs, for use outside the gate, leaves the logs out and says so.
+gate runs before this test, refused each for more than its proof's form: its log, target/must-fail/CRATE/LABEL/.log, is there, and its first
+error is not that the proof names an obligation which the wrong program has not got. --without-logs, for use outside the gate, leaves the logs out and says so.
 """
 import pathlib
 import re
@@ -84,8 +84,10 @@ def log_faults(name, edit):
     text = log.read_text(errors="replace")
     if "\nlogic=not-proved" not in text:
         yield "its log does not say that it was refused"
+    # Later errors may follow from the form: an operation more gives the places behind it other names.
+    first = re.search(r": error: [^\n]*", text)
     for misfit in MISFITS:
-        found = misfit.search(text)
+        found = misfit.search(first.group(0)) if first else None
         if found:
             yield f"it is refused for its proof's form: {found.group(0)}"
 
