@@ -19,6 +19,7 @@ PROOF_PARTS = {
 # A proof that names an obligation, or a fact before a step, that is not there shows nothing about the program.
 MISFITS = [
     re.compile(r"has no `[^`]*` that can be named from here"),
+    re.compile(r"record `[^`]*` has no field"),
 ]
 
 failures = []
