@@ -86,9 +86,9 @@ def log_faults(name, edit):
     if "\nlogic=not-proved" not in text:
         yield "its log does not say that it was refused"
     # Later errors may follow from the form: an operation more gives the places behind it other names.
-    first = re.search(r": error: [^\n]*", text)
+    first = re.search(r": error: .*?(?=\n\S|\Z)", text, re.DOTALL)
     for misfit in MISFITS:
-        found = misfit.search(first.group(0)) if first else None
+        found = misfit.search(" ".join(first.group(0).split())) if first else None
         if found:
             yield f"it is refused for its proof's form: {found.group(0)}"
 
