@@ -16,7 +16,7 @@
 
 enum { FEW = 7 };
 
-static unsigned long odd, writes;
+static unsigned long odd, writes, reads;
 
 static int is(const char *mode)
 {
@@ -71,8 +71,16 @@ static int on_file(int fd)
 
 ssize_t read(int fd, void *bytes, size_t count)
 {
+    reads++;
     if (is("short reads"))
         count = at_most_few(count);
+    if (is("interrupted reads") && reads % 2 == 1)
+        return fails(EINTR);
+    if (is("interrupted short reads")) {
+        if (reads % 3 != 0)
+            return fails(EINTR);
+        count = at_most_few(count);
+    }
     if (is("failing reads") && on_file(fd) && lseek(fd, 0, SEEK_CUR) > 0)
         return fails(EIO);
     return syscall(SYS_read, fd, bytes, count);

@@ -426,7 +426,7 @@ def _(folder, mode):
     same(counting(folder), odd_run(folder, mode))
 
 
-@each("odd calls:", "short reads")
+@each("odd calls:", "short reads", "interrupted reads", "interrupted short reads")
 def _(folder, mode):
     put(folder, FILES)
     same(SUM, odd_run(folder, mode))
