@@ -1,13 +1,12 @@
 -- A grant whose output slice has room for any step stops for a full output only after a step. Assumes nothing.
 use Prim.Native.Nat.{ℕ, zero, suc, _+_, _-_, _≤_, _<_}
 use mathlib.Core.Bool.{Bool, true, false}
-use mathlib.Core.List.{List, [], _∷_, _++_}
+use mathlib.Core.List.{List, []}
 use mathlib.Core.Path.{_≡_, refl, sym, ap, _∙_}
 use native.Mathlib.Nat.{le-refl}
 use native.Mathlib.Omega.{arith}
-use lib.Dec.{ltb}
 use lib.IntN.{ℤ}
-use lib.ListN.{length, drop, length-append}
+use lib.ListN.{length}
 use borrow.Author.Tests.{ltb-true, ltb-false}
 use Rattle.model.proofs.Costs.{priced, tak-run}
 use Rattle.model.proofs.Fits.{limits, grant-accepted}
@@ -17,15 +16,14 @@ use Rattle.model.proofs.Laws.{look-goes}
 use Rattle.model.proofs.Lists as lists
 use Rattle.model.proofs.Refusals.{grant-refused}
 use Rattle.model.specs.Calls.{accountOf, Granted, granted, grantRefusal}
-use Rattle.model.specs.Grants.{Call, Account, Standing, Stop, advance, run, accept, handBack, grant}
+use Rattle.model.specs.Grants.{Call, Account, Standing, Stop, advance, run, accept, handBack}
 use Rattle.model.specs.Instructions.{Operation, clearRegisters, clearCells, dumpRegisters, dumpCells, inputs, outputs, pushes, pops, skips, idles, writes, jumps, jumpsOn}
 use Rattle.model.specs.Machine.{Status, running, Look, stops, goes, look, lookAt}
 use Rattle.model.specs.Parameters.{Fit}
 use Rattle.model.specs.Step.{Environment, State, Tak, writtenBy, currentCell, currentOperation, stateStatus, stepCost, stepValues, environmentOf}
 use Rattle.model.specs.declared.Ending.{Ending}
 use Rattle.model.specs.declared.Ending.the-variants.{Failed, Ended, Paused, OutputFull}
-use Rattle.model.specs.declared.Outcome.{Outcome}
-use Rattle.model.specs.declared.Outcome.the-variants.{Refused, Stopped}
+use Rattle.model.specs.declared.Outcome.the-variants.{Stopped}
 use Rattle.model.specs.declared.Record.{Record}
 use Rattle.model.specs.Program.{isFull}
 use Rattle.session.specs.Sessions.{Progress}

@@ -1,12 +1,12 @@
 -- The answers of `begin`, `open`, `finish` and `run_grant`, from what the calls under them promise. Assumes nothing.
-use Prim.Native.Nat.{ℕ, zero, suc, _+_, _*_, _≤_}
+use Prim.Native.Nat.{ℕ, zero, suc, _+_, _≤_}
 use mathlib.Core.Bool.{true, false, false≢true}
 use mathlib.Core.List.{List, [], _∷_, _++_}
 use mathlib.Core.Path.{_≡_, refl, sym, ap, _∙_}
 use mathlib.Core.Logic.{⊎-elim}
 use native.Mathlib.Omega.{arith}
 use lib.IntN.{ℤ}
-use lib.ListN.{length, take, drop, length-append}
+use lib.ListN.{length, take, length-append}
 use borrow.Author.Tests.{eq-eqb, ne-eqb}
 use types.Run.{OneOf}
 use denote.Enum.Declared.{tagOf}
@@ -14,12 +14,12 @@ use Rattle.machine.specs.Contracts.{StartIs, GrantIs}
 use Rattle.model.proofs.Ending.{the-type}
 use Rattle.model.proofs.Lists as lists
 use Rattle.model.proofs.Refusals.{grant-refused}
-use Rattle.model.specs.Calls.{accountOf, Started, started, Granted, granted, grantRefusal}
-use Rattle.model.specs.Grants.{Call, Stop, accept, handBack}
+use Rattle.model.specs.Calls.{accountOf, started, Granted, granted, grantRefusal}
+use Rattle.model.specs.Grants.{Call, accept, handBack}
 use Rattle.model.specs.Lines.{valueLines, endingLine, refusalLine}
 use Rattle.model.specs.Load.{loadReply, imageAfter}
 use Rattle.model.specs.Program.{isFull, lastLines, replyLines}
-use Rattle.model.specs.Step.{State, Tak, environmentOf}
+use Rattle.model.specs.Step.{Tak, environmentOf}
 use Rattle.model.specs.declared.Ending.{Ending}
 use Rattle.model.specs.declared.Ending.the-variants.{Failed, Ended, Paused, OutputFull}
 use Rattle.model.specs.declared.GrantReply.{GrantReply}

@@ -1,25 +1,25 @@
 -- What the calls of a run write, one behind the other, is what document 01 says that `takrun` prints. Assumes nothing.
 use Prim.Native.Nat.{ℕ, zero, suc, _+_, _*_, _-_, _<_}
-use mathlib.Core.Bool.{Bool, true, false, false≢true}
+use mathlib.Core.Bool.{true, false, false≢true}
 use mathlib.Core.List.{List, [], _∷_, _++_, append-nil}
 use mathlib.Core.Path.{_≡_, refl, sym, ap, _∙_}
 use native.Mathlib.Omega.{arith}
 use lib.Dec.{eqb, leb}
 use lib.IntN.{ℤ, pos}
-use lib.ListN.{length, take, drop, replicate, length-replicate}
+use lib.ListN.{length, take, replicate, length-replicate}
 use lib.Seq.{take-append-seam}
 use borrow.Author.Tests.{le-leb, eq-eqb, eqb-true}
 use Rattle.model.proofs.Fits.{limits, refusal-first}
 use Rattle.model.proofs.Lists as lists
-use Rattle.model.proofs.Refusals.{load-refused-first, start-refused, grant-refused}
+use Rattle.model.proofs.Refusals.{load-refused-first, grant-refused}
 use Rattle.model.specs.Calls.{accountOf, Started, startChecks, started, Granted, granted, grantChecks, grantRefusal, freshRecord}
-use Rattle.model.specs.Grants.{Call, Stop, accept, handBack}
+use Rattle.model.specs.Grants.{Call, accept, handBack}
 use Rattle.model.specs.Lines.{refusalLine}
 use Rattle.model.specs.Load.{imageOf, imageAfter, loadChecks, loadReply}
 use Rattle.model.specs.Parameters.{_unless_, refusalOf, parameterChecks, Fit}
 use Rattle.model.specs.Program.{isFull, replyLines, sliceCall, grantLines, startLines, printed}
 use Rattle.model.specs.Settings.{settings}
-use Rattle.model.specs.Step.{Environment, State, Tak, environmentOf}
+use Rattle.model.specs.Step.{Environment, Tak, environmentOf}
 use Rattle.model.specs.declared.GrantReply.{GrantReply}
 use Rattle.model.specs.declared.LoadReply.{LoadReply}
 use Rattle.model.specs.declared.LoadReply.the-variants as load
@@ -27,7 +27,7 @@ use Rattle.model.specs.declared.Parameters.{Parameters}
 use Rattle.model.specs.declared.Record.{Record}
 use Rattle.model.specs.declared.StartReply.{StartReply}
 use Rattle.session.specs.Runs.{Grants, last, next, Run, refused, granted as goes}
-use Rattle.session.specs.Sessions.{startLine, Shows, BeginIs, Sizes, Unloaded, OpenBy, OpenIs, ReportIs}
+use Rattle.session.specs.Sessions.{startLine, Shows, Sizes, OpenBy, OpenIs}
 use Rattle.session.specs.declared.Report.{Report}
 
 -- The bytes that a call puts in front of the buffer.

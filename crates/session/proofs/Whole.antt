@@ -1,19 +1,19 @@
 -- What `takrun` prints needs no more of a text or an input than one byte over the limit. Assumes nothing.
 use Prim.Native.Nat.{ℕ, zero, suc, _*_, _≤_, _<_}
-use mathlib.Core.Bool.{true, false, false≢true}
+use mathlib.Core.Bool.{false, false≢true}
 use mathlib.Core.List.{List, [], _∷_, _++_, append-nil}
 use mathlib.Core.Path.{_≡_, refl, sym, ap, _∙_}
 use native.Mathlib.Decide.{decLt}
 use native.Mathlib.Omega.{arith}
-use lib.IntN.{ℤ, pos}
-use lib.ListN.{length, take, drop, replicate, take-append-drop, drop-of-length-le}
+use lib.IntN.{ℤ}
+use lib.ListN.{length, take, replicate, take-append-drop, drop-of-length-le}
 use lib.Seq.{length-take-le}
 use borrow.Author.Tests.{le-leb, lt-leb, ne-eqb}
 use Rattle.model.proofs.Fits.{all-fit, fit-right, numbered-append, parameters-numbered, grant-accepted}
 use Rattle.model.proofs.Refusals.{load-refused-first, grant-refused}
 use Rattle.model.specs.Calls.{accountOf, Started, started, Granted, granted, recordFits, grantChecks, grantRefusal}
 use Rattle.model.specs.Grants.{Call}
-use Rattle.model.specs.Load.{lengthCheck, imageOf, loadChecks, loadReply}
+use Rattle.model.specs.Load.{lengthCheck, loadChecks, loadReply}
 use Rattle.model.specs.Parameters.{Check, _unless_, refusalOf, parameterChecks}
 use Rattle.model.specs.Program.{isFull, replyLines, sliceCall, grantLines, startLines, printed}
 use Rattle.model.specs.Settings.{settings}

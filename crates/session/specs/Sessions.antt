@@ -1,13 +1,12 @@
 -- Document 01, "Marked runs": what `takrun` does with the contents of its files, call by call. A buffer is marked ₀ before the call, ₁ after it.
 use Prim.Native.Nat.{ℕ, zero, suc, _+_, _*_, _≤_, _<_}
-use mathlib.Core.Bool.{Bool, true, false, cond}
+use mathlib.Core.Bool.{true, false, cond}
 use mathlib.Core.List.{List, [], _++_}
 use mathlib.Core.Path.{_≡_}
 use lib.Dec.{eqb, leb}
 use lib.IntN.{ℤ}
 use lib.ListN.{length, drop}
 use Rattle.model.specs.Calls.{Started, started, Granted, granted}
-use Rattle.model.specs.Grants.{Call}
 use Rattle.model.specs.Lines.{refusalLine}
 use Rattle.model.specs.Load.{loadReply, imageAfter}
 use Rattle.model.specs.Program.{isFull, replyLines}
@@ -15,7 +14,6 @@ use Rattle.model.specs.declared.LoadReply.{LoadReply}
 use Rattle.model.specs.declared.LoadReply.the-variants as load
 use Rattle.model.specs.declared.Parameters.{Parameters}
 use Rattle.model.specs.declared.Record.{Record}
-use Rattle.model.specs.declared.StartReply.{StartReply}
 use Rattle.session.specs.declared.Report.{Report}
 
 -- START. "A refused call prints .. number, line index (0 but from load), and is the last."

@@ -1,8 +1,8 @@
 -- An intake behind a read, case by case, as the code has them; and what is known of a file before its end. Assumes nothing.
-use Prim.Native.Nat.{ℕ, suc, _-_, _<_}
+use Prim.Native.Nat.{ℕ, _-_, _<_}
 use mathlib.Core.Path.{_≡_, refl, sym, ap, _∙_}
-use mathlib.Core.Bool.{Bool, true, false, _&&_, _||_, cond, false≢true}
-use mathlib.Core.List.{List, [], _∷_, _++_, foldl-append}
+use mathlib.Core.Bool.{Bool, true, false, _&&_, _||_}
+use mathlib.Core.List.{List, [], _∷_, _++_, append-assoc, append-nil, foldl-append}
 use native.Mathlib.Omega.{arith}
 use lib.Dec.{eqb, ltb}
 use lib.ListN.{take}
@@ -10,12 +10,12 @@ use borrow.Author.Tests.{eq-eqb, ne-eqb, eqb-true, ltb-true}
 use Rattle.model.proofs.Fits.{both, by-cond}
 use Rattle.model.specs.Numbers.{isBlank}
 use Rattle.model.specs.Settings.{zeros, settings}
-use Rattle.settings.specs.Intakes.{knownWrong, goesOn, atEnd, taken}
+use Rattle.settings.specs.Intakes.{knownWrong, goesOn, atEnd, taken, Pieces, ends, stops, next}
 use Rattle.settings.specs.Scans.{unread, counted, ended, extends, scanned, scannedAll, scanOf, settled}
 use Rattle.settings.specs.declared.Scan.{Scan}
 use Rattle.settings.specs.declared.intakes.Intake.{Intake}
 use Rattle.settings.specs.declared.transfers.Transfer.{Transfer}
-use Rattle.settings.proofs.ScanLaws.{Void, ended-word, ended-void, scanned-blank, scanned-digit, scanned-bad, scanned-void}
+use Rattle.settings.proofs.ScanLaws.{Void, ended-word, scanned-blank, scanned-digit, scanned-bad}
 use Rattle.settings.proofs.Chunks.{settled-void, settled-file}
 
 -- A scan, by the code's tests.
@@ -93,3 +93,26 @@ pub known-wrong : (before : List ℕ) → knownWrong (scanOf before) ≡ true �
     (settled (scanOf before) ≡ zeros) × ((rest : List ℕ) → settings (before ++ rest) ≡ zeros)
 known-wrong before h =
     (wrong-settled [] (scanOf before) h, λ rest. sym (settled-file (before ++ rest)) ∙ ap settled (foldl-append scanned unread before rest) ∙ wrong-settled rest (scanOf before) h)
+
+-- ALL READS
+module _ (a : Intake) (t : Transfer) (bytes : List ℕ) (fine : t .failed ≡ false) where
+  piece-scan : atEnd t ≡ false → (before : List ℕ) → a .scan ≡ scanOf before → taken a t bytes .scan ≡ scanOf (before ++ take (t .count) bytes)
+  unfolding goesOn
+  piece-scan part before e =
+      ap (λ (x : Intake). x .scan) (sym (taken-piece a t bytes fine part))
+      ∙ ap (λ (x : Scan). scannedAll x (take (t .count) bytes)) e
+      ∙ sym (foldl-append scanned unread before (take (t .count) bytes))
+
+-- However the file comes in pieces, the scan that they end with settles to the settings of the whole file.
+pub pieces-settle : {a b : Intake} {rest : List ℕ} → Pieces a rest b → (before : List ℕ) → a .scan ≡ scanOf before → settled (b .scan) ≡ settings (before ++ rest)
+pieces-settle {a} (ends t bytes fine end) before e =
+    ap settled (ap (λ (x : Intake). x .scan) (sym (taken-end a t bytes fine end)) ∙ e) ∙ settled-file before ∙ ap settings (sym (append-nil before))
+pieces-settle {a} (stops t bytes rest fine part wrong) before e =
+    let piece = take (t .count) bytes in
+    let scan = piece-scan a t bytes fine part before e in
+    let same = ap (λ (x : Scan). scannedAll x piece) e ∙ sym (foldl-append scanned unread before piece) in
+    let known = known-wrong (before ++ piece) (ap knownWrong (sym same) ∙ wrong) in
+    ap settled scan ∙ known .0 ∙ sym (known .1 rest) ∙ ap settings (append-assoc before piece rest)
+pieces-settle {a} (next t bytes rest fine part later) before e =
+    let piece = take (t .count) bytes in
+    pieces-settle later (before ++ piece) (piece-scan a t bytes fine part before e) ∙ ap settings (append-assoc before piece rest)

@@ -1,7 +1,8 @@
 -- `tak.par`, read piece by piece.
 use Prim.Native.Nat.{ℕ, _-_}
-use mathlib.Core.Bool.{Bool, _&&_, _||_, cond}
-use mathlib.Core.List.{List}
+use mathlib.Core.Bool.{Bool, true, false, _&&_, _||_, cond}
+use mathlib.Core.List.{List, [], _++_}
+use mathlib.Core.Path.{_≡_}
 use lib.Dec.{eqb, ltb}
 use lib.ListN.{take}
 use Rattle.settings.specs.Scans.{unread, scannedAll}
@@ -10,7 +11,7 @@ use Rattle.settings.specs.declared.intakes.Intake.{Intake}
 use Rattle.settings.specs.declared.Scan.{Scan}
 use Rattle.settings.specs.declared.transfers.Transfer.{Transfer}
 
--- Whatever follows, the file has a word that is not 1 to 9 digits, or a sixth word (proofs/Known.antt).
+-- Whatever follows, the file has a word that is not 1 to 9 digits, or a sixth word (`known-wrong` of proofs/IntakeLaws.antt).
 unfoldable pub knownWrong : Scan → Bool
 knownWrong a = eqb (a .count) 6 || (eqb (a .count) 5 && ltb 0 (a .digits))
 
@@ -31,3 +32,17 @@ unfoldable pub taken : Intake → Transfer → (bytes : List ℕ) → Intake
 taken a t bytes =
     cond (t .failed) (record { scan = unread; calls = 0 })
     (cond (atEnd t) (record { scan = a .scan; calls = 0 }) (goesOn a (scannedAll (a .scan) (take (t .count) bytes))))
+
+-- Reads of the bytes `rest` of a file, one after the other, none of which failed: to the file's end, or until it is known to be wrong.
+pub data Pieces : Intake → (rest : List ℕ) → Intake → Type 0 where
+  ends : {a : Intake} (t : Transfer) (bytes : List ℕ) → t .failed ≡ false → atEnd t ≡ true → Pieces a [] (taken a t bytes)
+  stops : {a : Intake} (t : Transfer) (bytes rest : List ℕ) →
+      t .failed ≡ false →
+      atEnd t ≡ false →
+      knownWrong (scannedAll (a .scan) (take (t .count) bytes)) ≡ true →
+      Pieces a (take (t .count) bytes ++ rest) (taken a t bytes)
+  next : {a b : Intake} (t : Transfer) (bytes rest : List ℕ) →
+      t .failed ≡ false →
+      atEnd t ≡ false →
+      Pieces (taken a t bytes) rest b →
+      Pieces a (take (t .count) bytes ++ rest) b

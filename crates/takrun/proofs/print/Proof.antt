@@ -1,6 +1,5 @@
 -- `print` is safe and ends: each call leaves fewer to follow. Assumes nothing.
 use Prim.Native.Nat.{_≤_}
-use native.Mathlib.Omega.{arith}
 use lib.ListN.{length}
 use borrow.Author.Needs.{needs}
 use Rattle.settings.proofs.TransferLaws.{none-moved}

@@ -1,7 +1,6 @@
 -- `read_all` meets its contract; each call leaves fewer to follow. Assumes nothing.
 use Prim.Native.Nat.{_≤_}
 use mathlib.Core.Path.{_≡_, refl}
-use native.Mathlib.Omega.{arith}
 use lib.ListN.{length}
 use borrow.Author.Needs.{needs}
 use Rattle.settings.proofs.TransferLaws.{none-moved}

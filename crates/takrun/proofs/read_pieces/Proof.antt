@@ -1,5 +1,4 @@
 -- `read_pieces` is safe and ends: each read leaves fewer to follow. Assumes nothing.
-use Prim.Native.Nat.{_≤_}
 use mathlib.Core.Path.{_≡_}
 use native.Mathlib.Omega.{arith}
 use lib.ListN.{length}

@@ -1,5 +1,4 @@
 -- `after_call` meets its contract. Assumes nothing.
-use mathlib.Core.Path.{_≡_, sym, _∙_}
 use mir.Facts.{toZ-ofZ, fits-natAbs, sfits-toZ, fits-ofZ}
 use mir.Syntax.{w64}
 use mir.Val.{toZ, ofZ}
