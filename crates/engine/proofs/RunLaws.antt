@@ -24,10 +24,10 @@ use Rattle.model.specs.Step.{Environment, State, Tak, currentCell, stateStatus,
 use Rattle.model.specs.declared.Ending.{Ending}
 use Rattle.effects.specs.Effects.{outputAfter}
 use Rattle.image.specs.Decode.{instructionOf, cellFrom}
-use Rattle.looks.specs.Looks.{foundOf, foundAt}
-use Rattle.looks.specs.declared.Found.the-variants.{Stops, Runs}
-use Rattle.looks.specs.declared.Found.{Found}
-use Rattle.looks.specs.declared.Offer.{Offer}
+use Rattle.engine.specs.Looks.{foundOf, foundAt}
+use Rattle.engine.specs.declared.looks.Found.the-variants.{Stops, Runs}
+use Rattle.engine.specs.declared.looks.Found.{Found}
+use Rattle.engine.specs.declared.looks.Offer.{Offer}
 use Rattle.operands.specs.Cores.{stateOf}
 use Rattle.operands.specs.declared.Core.{Core}
 use Rattle.steps.specs.Steppable.{written, Steppable}

@@ -1,8 +1,10 @@
 // Looks and steps until one of the endings holds.
+pub mod looks;
+
 ghost use Rattle.model.specs.Step.{environmentOf};
 ghost use Rattle.engine.specs.Runs.{Runnable, RunIs};
-use looks::Found;
-use looks::look;
+use crate::looks::Found;
+use crate::looks::look;
 use model::Ending;
 use model::Parameters;
 use operands::Core;

@@ -18,9 +18,9 @@ use Rattle.model.specs.Words.{Cell, cellWords}
 use Rattle.model.specs.Load.{Checked, fine, fault, lines, lineOf, linesReply, wordsOf, linesWords, textReply, imageOf}
 use Rattle.text.specs.Parts.{part}
 use Rattle.text.specs.Lines.{NextLine}
-use Rattle.parser.specs.declared.line.Parsed.{Parsed}
-use Rattle.parser.specs.declared.line.Parsed.the-variants.{Words, Fault}
-use Rattle.parser.specs.Lines.{parsedOf}
+use Rattle.loader.specs.declared.line.Parsed.{Parsed}
+use Rattle.loader.specs.declared.line.Parsed.the-variants.{Words, Fault}
+use Rattle.loader.specs.Lines.{parsedOf}
 use Rattle.loader.specs.Passes.{Ready, Filled}
 
 -- THE REPLY

@@ -1,1 +1,4 @@
+pub mod Keys
+pub mod Places
+pub mod Lines
 pub mod Passes

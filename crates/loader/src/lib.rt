@@ -1,4 +1,8 @@
 // The loader: a TCL text into an image.
+pub mod arguments;
+pub mod line;
+pub mod names;
+
 ghost use mathlib.Core.Path.{_≡_};
 ghost use mathlib.Core.Bool.{cond};
 ghost use mathlib.Core.List.{_∷_, []};
@@ -10,18 +14,18 @@ ghost use Rattle.model.specs.declared.LoadReply.the-variants.{Refused};
 ghost use Rattle.model.specs.Parameters.{limit, Fit};
 ghost use Rattle.model.specs.Load.{lines, textReply, loadReply, imageAfter, loadNumbers, numbersOfLoad};
 ghost use Rattle.image.specs.Forms.{formTable};
-ghost use Rattle.names.specs.Keys.{keyTable, Slots};
+ghost use Rattle.loader.specs.Keys.{keyTable, Slots};
 ghost use Rattle.loader.specs.Passes.{Ready, Filled};
+use crate::line::Parsed;
+use crate::line::parse_line;
+use crate::names::key_table;
+use crate::names::slot_table;
 use cells::limits::limit_of;
 use cells::limits::parameter_refusal;
 use image::forms::form_table;
 use model::LoadReply;
 use model::Parameters;
 use model::Record;
-use names::key_table;
-use names::slot_table;
-use parser::line::Parsed;
-use parser::line::parse_line;
 use text::lines::count_lines;
 use text::lines::next_line;
 

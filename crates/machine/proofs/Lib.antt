@@ -1,3 +1,5 @@
+pub mod RecordLaws
+pub mod RefusalLaws
 pub mod CallLaws
 pub mod Cores
 pub mod Demand

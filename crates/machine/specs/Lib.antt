@@ -1,3 +1,4 @@
+pub mod Checks
 pub mod Contracts
 pub mod Chains
 pub mod Refusal10

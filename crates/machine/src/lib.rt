@@ -1,4 +1,6 @@
 // Start and grant.
+pub mod checks;
+
 ghost use mathlib.Core.Path.{_≡_};
 ghost use mathlib.Core.Bool.{true};
 ghost use mathlib.Core.List.{List, []};
@@ -8,9 +10,9 @@ ghost use lib.Signed.{leZ};
 ghost use Rattle.model.specs.Calls.{zeroRecord, accountOf, recordOf};
 ghost use Rattle.operands.specs.Cores.{stateOf};
 ghost use Rattle.machine.specs.Contracts.{StartIs, GrantIs};
+use crate::checks::grant_refusal;
+use crate::checks::start_refusal;
 use cells::limits::limit_of;
-use checks::grant_refusal;
-use checks::start_refusal;
 use effects::clear;
 use engine::run;
 use model::GrantReply;

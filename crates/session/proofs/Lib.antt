@@ -1,3 +1,4 @@
+pub mod Pieces
 pub mod Advance
 pub mod Lines
 pub mod Printed

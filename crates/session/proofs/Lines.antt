@@ -29,8 +29,8 @@ use Rattle.model.specs.declared.Outcome.the-variants as outcome
 use Rattle.model.specs.declared.Parameters.{Parameters}
 use Rattle.model.specs.declared.Record.{Record}
 use Rattle.model.specs.declared.StartReply.{StartReply}
-use Rattle.report.proofs.Pieces.{put-then, put-front}
-use Rattle.report.specs.Puts.{Put}
+use Rattle.session.proofs.Pieces.{put-then, put-front}
+use Rattle.session.specs.Puts.{Put}
 use Rattle.session.proofs.Advance.{full-progress}
 use Rattle.session.specs.Sessions.{startLine, Shows, BeginIs, OpenIs, ReportIs}
 use Rattle.session.specs.declared.Report.{Report}

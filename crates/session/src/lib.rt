@@ -1,11 +1,16 @@
 // What takrun does with the contents of its files: load and start, then a grant at a time, with the lines that it prints.
+pub mod printing;
+
 ghost use mathlib.Core.Bool.{true, false};
 ghost use mathlib.Core.Path.{_≡_};
 ghost use Prim.Native.Nat.{_+_, _≤_};
 ghost use lib.ListN.{length};
 ghost use Rattle.model.specs.Program.{isFull, lastLines};
-ghost use Rattle.report.specs.Puts.{Put};
+ghost use Rattle.session.specs.Puts.{Put};
 ghost use Rattle.session.specs.Sessions.{Sizes, BeginIs, OpenIs, ReportIs};
+use crate::printing::put_ending;
+use crate::printing::put_refusal;
+use crate::printing::put_values;
 use loader::load;
 use machine::grant;
 use machine::start;
@@ -15,9 +20,6 @@ use model::LoadReply;
 use model::Outcome;
 use model::Parameters;
 use model::Record;
-use report::put_ending;
-use report::put_refusal;
-use report::put_values;
 
 // After a call: the bytes of its lines, and whether a grant follows, of which record and cycles.
 pub struct Report {

@@ -1,3 +1,4 @@
+pub mod ChoiceLaws
 pub mod Ready
 pub mod Steps
 pub mod Targets

@@ -22,7 +22,7 @@ use Rattle.image.specs.Decode.{cellFrom}
 use Rattle.image.specs.declared.decode.Instruction.{Instruction}
 use Rattle.operands.specs.Cores.{stateOf, Bounded}
 use Rattle.operands.specs.declared.Core.{Core}
-use Rattle.planner.specs.Choices.{planOf, Choosable}
+use Rattle.steps.specs.Choices.{planOf, Choosable}
 use Rattle.plans.specs.Plans.{registersAfter, cellsAfter, valuesOf, planned}
 use Rattle.plans.specs.declared.Plan.{Plan}
 use Rattle.steps.specs.Steppable.{written, Steppable}

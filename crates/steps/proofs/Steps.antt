@@ -19,7 +19,7 @@ use Rattle.model.specs.declared.Parameters.{Parameters}
 use Rattle.arithmetic.specs.Answers.{computed}
 use Rattle.operands.specs.Cores.{stateOf}
 use Rattle.operands.specs.declared.Core.{Core}
-use Rattle.planner.specs.Choices.{planOf}
+use Rattle.steps.specs.Choices.{planOf}
 use Rattle.plans.specs.Plans.{registersAfter, cellsAfter, valuesOf, planned, writtenPlan, keptPlan, failedPlan, settledPlan, answeredPlan, jumpPlan, takenPlan, booleanPlan, withTop, movedTo, pushPlan, popPlan, inputPlan}
 use Rattle.plans.specs.declared.Plan.{Plan}
 use Rattle.steps.proofs.Tops.{raised-top, top-raised, lowered-top, head-of, empty-top}

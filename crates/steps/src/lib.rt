@@ -1,4 +1,6 @@
 // The step.
+pub mod planner;
+
 ghost use mathlib.Core.Path.{_≡_};
 ghost use mathlib.Core.List.{List};
 ghost use Prim.Native.Nat.{ℕ};
@@ -9,12 +11,12 @@ ghost use Rattle.image.specs.Decode.{cellFrom};
 ghost use Rattle.operands.specs.Cores.{stateOf};
 ghost use Rattle.effects.specs.Effects.{outputAfter};
 ghost use Rattle.steps.specs.Steppable.{written, Steppable};
+use crate::planner::choose;
 use effects::apply;
 use image::decode::Instruction;
 use model::Parameters;
 use operands::Core;
 use operands::read;
-use planner::choose;
 
 // One step: the operands, then the plan, then what it does, unless it fails. `out` is the part of the output slice behind the values already written.
 pub fn step(

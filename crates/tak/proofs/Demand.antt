@@ -21,7 +21,7 @@ use Rattle.model.specs.declared.Parameters.{Parameters}
 use Rattle.model.specs.declared.Record.{Record}
 use Rattle.tak.specs.Calls.{StartCall, startReplied, takStart, GrantCall, grantReplied, takGrant}
 use Rattle.tak.specs.Lists.{Slices, slicesAfterStart, slicesAfter, Chain, nothing, called, allReplied, CallsDemand3}
-use Rattle.records.specs.Records.{recordAfter, numbersOf}
+use Rattle.tak.specs.Records.{recordAfter, numbersOf}
 use Rattle.tak.proofs.Exact.{Fitting, read-back, fresh-fitting, granted-fitting}
 
 -- The slices of a record and memory.

@@ -20,7 +20,7 @@ use Rattle.model.specs.Step.{Environment, State, environmentOf}
 use Rattle.model.specs.declared.Parameters.{Parameters}
 use Rattle.model.specs.declared.Record.{Record}
 use Rattle.tak.specs.Calls.{takGrant}
-use Rattle.records.specs.Records.{held, most32, most64, at, recordFrom, numbersOf}
+use Rattle.tak.specs.Records.{held, most32, most64, at, recordFrom, numbersOf}
 
 -- EXACT
 -- A number that is held as less than the greatest is held as itself.

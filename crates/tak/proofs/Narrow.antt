@@ -15,7 +15,7 @@ use Rattle.model.specs.declared.Parameters.{Parameters}
 use Rattle.model.specs.declared.Record.{Record}
 use Rattle.model.specs.declared.StartReply.{StartReply}
 use Rattle.machine.specs.Contracts.{StartIs, GrantIs}
-use Rattle.records.specs.Records.{Narrow}
+use Rattle.tak.specs.Records.{Narrow}
 
 -- Start's record has these fields at 0, accepted or refused.
 module _ (p : Parameters) (image : List ℕ) (registers cells : List ℤ) where

@@ -8,7 +8,7 @@ use borrow.Author.Tests.{eq-eqb}
 use Rattle.model.specs.declared.Parameters.{Parameters}
 use Rattle.machine.proofs.Refusal10.{started-10, granted-10}
 use Rattle.machine.specs.Refusal10.{Refusal10}
-use Rattle.records.specs.Records.{recordFrom}
+use Rattle.tak.specs.Records.{recordFrom}
 use Rattle.tak.specs.Calls.{StartCall, takStart, GrantCall, takGrant}
 
 pub start-10 : (p : Parameters) (image : List ℕ) (registers cells numbers : List ℤ) (x : StartCall) →

@@ -13,7 +13,7 @@ use Rattle.model.specs.declared.Parameters.{Parameters}
 use Rattle.model.specs.declared.Record.{Record}
 use Rattle.model.specs.Calls.{Started, started, Granted, granted, outcomeNumber, Spelled, spelled}
 use Rattle.model.specs.Load.{loadReply, imageAfter, loadRefusal, loadLines, loadLine}
-use Rattle.records.specs.Records.{recordFrom, recordAfter}
+use Rattle.tak.specs.Records.{recordFrom, recordAfter}
 
 -- The parameters, as each call has them.
 abbrev pub parametersOf : (k n s b t : ℕ) → Parameters

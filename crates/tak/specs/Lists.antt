@@ -8,7 +8,7 @@ use Rattle.model.specs.Demand.{Held, Demand3}
 use Rattle.model.specs.Grants.{Call}
 use Rattle.model.specs.Step.{Environment}
 use Rattle.tak.specs.Calls.{StartCall, GrantCall, grantReplied, takGrant}
-use Rattle.records.specs.Records.{numbersOf}
+use Rattle.tak.specs.Records.{numbersOf}
 
 -- The slices that a caller keeps from call to call: the record, the registers and the data cells.
 pub record Slices : Type 0 where

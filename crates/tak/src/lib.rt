@@ -1,9 +1,14 @@
 // The machine for callers from C, as include/tak.h declares it: numbers and lent slices. No call has a `requires`: what does not fit is refused.
 // The header's record slice is `numbers` here, since contracts have another use for the word `record`.
+pub mod records;
+
 ghost use mathlib.Core.Path.{_≡_};
 ghost use Rattle.model.specs.Calls.{outcomeNumber};
 ghost use Rattle.model.specs.Load.{loadNumbers};
 ghost use Rattle.tak.specs.Calls.{parametersOf, endingNumber, outcomeEnding, takLoad, takStart, takGrant, takDecimal};
+use crate::records::RECORD;
+use crate::records::hand_back;
+use crate::records::record_from;
 use loader::load;
 use machine::grant;
 use machine::start;
@@ -11,9 +16,6 @@ use model::Ending;
 use model::LoadReply;
 use model::Outcome;
 use model::Parameters;
-use records::RECORD;
-use records::hand_back;
-use records::record_from;
 use writer::decimal::write_decimal;
 
 // A record slice of another length, TAK_RECORD_SIZE: the one number of a refusal that document 01 does not have.

@@ -6,7 +6,7 @@ use native.Mathlib.Omega.{arith}
 use lib.ListN.{length}
 use borrow.Author.Needs.{needs}
 use Rattle.model.specs.Step.{environmentOf}
-use Rattle.looks.specs.declared.Found.the-variants.{Runs}
+use Rattle.engine.specs.declared.looks.Found.the-variants.{Runs}
 use Rattle.engine.specs.Runs.{Runnable}
 use Rattle.engine.proofs.RunLaws.{found, Going-on, begins, stopped, cost-paid, cost-some, room-for, steppable, goes-on}
 use Rattle.engine.proofs.run.Statement.{statement}

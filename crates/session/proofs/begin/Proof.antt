@@ -2,7 +2,7 @@
 use native.Mathlib.Omega.{arith}
 use borrow.Author.Needs.{needs}
 use denote.Ref.{now}
-use Rattle.report.proofs.Pieces.{put-length}
+use Rattle.session.proofs.Pieces.{put-length}
 use Rattle.session.proofs.Lines.{not-begun, has-begun}
 use Rattle.session.proofs.begin.Statement.{statement}
 use Rattle.session.proofs.begin.Tie as tie

@@ -3,7 +3,7 @@ use mathlib.Core.Path.{refl}
 use native.Mathlib.Omega.{arith}
 use borrow.Author.Needs.{needs}
 use denote.Ref.{now}
-use Rattle.report.proofs.Pieces.{put-length}
+use Rattle.session.proofs.Pieces.{put-length}
 use Rattle.session.proofs.Lines.{not-loaded, has-loaded}
 use Rattle.session.proofs.open.Statement.{statement}
 use Rattle.session.proofs.open.Tie as tie

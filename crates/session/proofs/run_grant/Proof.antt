@@ -4,7 +4,7 @@ use native.Mathlib.Omega.{arith}
 use lib.Seq.{length-take-le}
 use borrow.Author.Needs.{needs}
 use denote.Ref.{now}
-use Rattle.report.proofs.Pieces.{put-length, put-then}
+use Rattle.session.proofs.Pieces.{put-length, put-then}
 use Rattle.session.proofs.Lines.{written-fits, reported}
 use Rattle.session.proofs.run_grant.Statement.{statement}
 use Rattle.session.proofs.run_grant.Tie as tie

@@ -1,2 +1,0 @@
-pub mod RecordLaws
-pub mod RefusalLaws

@@ -1,0 +1,104 @@
+-- `argument_word` meets its contract, by the first letter and the special registers' names. Assumes nothing.
+use mathlib.Core.Path.{sym, ap, _∙_}
+use mathlib.Core.Option.{Option}
+use native.Mathlib.Omega.{arith}
+use borrow.Author.Needs.{needs}
+use denote.Ref.{now}
+use Rattle.model.specs.Words.{Argument, wordOf}
+use Rattle.model.specs.Load.{specialOf, placed}
+use Rattle.loader.specs.declared.arguments.Placed.the-variants.{Word}
+use Rattle.loader.specs.Places.{placedOf}
+use Rattle.loader.proofs.ArgumentLaws.{special-high, argument-none, argument-special, argument-register, argument-direct, argument-number, special-barred, special-placed}
+use Rattle.loader.proofs.arguments.argument_word.Statement.{statement}
+use Rattle.loader.proofs.arguments.argument_word.Tie as tie
+
+returns : tie.Need-returns
+returns c =
+    let a = c .before .before .args in
+    sym (ap (λ (o : Option Argument). placedOf (placed (a .p) (a .form) o)) (argument-none (now (a .w)) (c .if1 .taken)))
+
+shared-slice-read-upper : tie.Need-shared-slice-read-upper
+shared-slice-read-upper c = search needs
+
+upper-requires : tie.Need-upper-requires
+upper-requires c κs = search needs
+
+register-word-requires : tie.Need-register-word-requires
+register-word-requires c κs = search needs
+
+returns-2 : tie.Need-returns-2
+returns-2 c =
+    let at = c .before in
+    let a = at .before .before .before .before .before .args in
+    c .register-word .ensures
+    ∙ sym (ap (λ (o : Option Argument). placedOf (placed (a .p) (a .form) o))
+    (argument-register (now (a .w)) (search needs) (sym (at .before .upper .ensures) ∙ at .if2 .taken)))
+
+direct-word-requires : tie.Need-direct-word-requires
+direct-word-requires c κs = search needs
+
+returns-3 : tie.Need-returns-3
+returns-3 c =
+    let at = c .before in
+    let a = at .before .before .before .before .before .before .args in
+    c .direct-word .ensures
+    ∙ sym (ap (λ (o : Option Argument). placedOf (placed (a .p) (a .form) o))
+    (argument-direct (now (a .w)) (search needs) (sym (at .before .before .upper .ensures) ∙ at .if3 .taken)))
+
+special-requires : tie.Need-special-requires
+special-requires c κs = search needs
+
+number-word-requires : tie.Need-number-word-requires
+number-word-requires c κs = search needs
+
+returns-4 : tie.Need-returns-4
+returns-4 c =
+    let at = c .before in
+    let e = at .before .before in
+    let a = e .before .before .before .before .before .before .args in
+    let u = e .before .before .upper .ensures in
+    c .number-word .ensures
+    ∙ sym (ap (λ (o : Option Argument). placedOf (placed (a .p) (a .form) o))
+    (argument-number (now (a .w)) (search needs) (λ q. e .before .if2 .left (u ∙ q)) (λ q. e .if3 .left (u ∙ q))
+    (sym (at .before .special .ensures) ∙ at .if4 .taken)))
+
+add-t13 : tie.Need-add-t13
+add-t13 c =
+    let at = c .before .before in
+    let h = special-high (now (at .before .before .before .before .before .before .before .args .w)) in
+    omega (arith, at .special .ensures)
+
+returns-5 : tie.Need-returns-5
+returns-5 c =
+    let at = c .before .before in
+    let a = at .before .before .before .before .before .before .before .args in
+    let w = now (a .w) in
+    ap Word (ap (wordOf 1) (at .special .ensures))
+    ∙ sym (ap placedOf (special-placed (a .p) (a .form) (c .if5 .taken) (specialOf w)))
+    ∙ sym (ap (λ (o : Option Argument). placedOf (placed (a .p) (a .form) o)) (argument-special w (λ q. c .before .if4 .left (at .special .ensures ∙ q))))
+
+returns-6 : tie.Need-returns-6
+returns-6 c =
+    let at = c .before .before in
+    let a = at .before .before .before .before .before .before .before .args in
+    let w = now (a .w) in
+    sym (ap (λ (o : Option Argument). placedOf (placed (a .p) (a .form) o)) (argument-special w (λ q. c .before .if4 .left (at .special .ensures ∙ q)))
+    ∙ ap placedOf (special-barred (a .p) (a .form) (c .if5 .left) (specialOf w)))
+
+pub argument-word-spec : {M : Type 1} → statement M
+argument-word-spec =
+    tie.close
+    (tie.spec
+    returns
+    shared-slice-read-upper
+    upper-requires
+    register-word-requires
+    returns-2
+    direct-word-requires
+    returns-3
+    special-requires
+    number-word-requires
+    returns-4
+    add-t13
+    returns-5
+    returns-6)

@@ -1,0 +1,136 @@
+// An argument of an instruction, as the word of its cell.
+ghost use mathlib.Core.Path.{_≡_};
+ghost use Prim.Native.Nat.{_<_, _≤_, _^_};
+ghost use lib.ListN.{drop};
+ghost use lib.Signed.{mag};
+ghost use Rattle.model.specs.Parameters.{limit, Fit};
+ghost use Rattle.model.specs.Numbers.{mapped, natural, number};
+ghost use Rattle.model.specs.Words.{wordOf, numberBits, register, literal};
+ghost use Rattle.model.specs.Load.{specialOf, afterD, argument, placed};
+ghost use Rattle.loader.specs.Places.{indexedOf, placedOf};
+use crate::names::same_word;
+use model::Parameters;
+use numbers::reading::Digits;
+use numbers::reading::Reading;
+use numbers::reading::read_digits;
+use numbers::reading::read_number;
+use text::bytes::upper;
+
+// The word of an argument, or its fault: 13 or 14.
+pub enum Placed {
+    Word(u32),
+    Fault(u32),
+}
+
+// The number of the special register that the word names; 0 if it names none.
+fn special(w: &[u8]) -> u32
+    ensures { λ r. ⌜ r ≡ specialOf (now (w .entry)) ⌝ }
+{
+    if same_word(w, b"IAR") {
+        return 256;
+    }
+    if same_word(w, b"IRCR") {
+        return 257;
+    }
+    if same_word(w, b"SHR") {
+        return 258;
+    }
+    0
+}
+
+// The word of this kind for the index that the digits say, of those below the count.
+fn indexed(kind: u32, count: u32, d: Digits) -> Placed
+    requires { ⌜ (kind ≤ 2) × (count ≤ 4096) ⌝ }
+    ensures { λ r. ⌜ r ≡ indexedOf kind count d ⌝ }
+{
+    match d {
+        Digits::Invalid => Placed::Fault(13),
+        Digits::Value(v) => {
+            if v < count as u64 {
+                Placed::Word(kind * 1073741824 + v as u32)
+            } else {
+                Placed::Fault(14)
+            }
+        }
+    }
+}
+
+// R with digits.
+fn register_word(w: &[u8], form: u32, p: Parameters) -> Placed
+    requires { ⌜ Fit p ⌝ }
+    ensures { λ r. ⌜ r ≡ placedOf (placed p form (mapped register (natural (drop 1 (now (w .entry)))))) ⌝ }
+{
+    if form % 2 == 1 {
+        return indexed(1, p.n, read_digits(w, 1));
+    }
+    Placed::Fault(13)
+}
+
+// DM with digits, of which the D is known.
+fn direct_word(w: &[u8], form: u32, p: Parameters) -> Placed
+    requires { ⌜ Fit p ⌝ }
+    ensures { λ r. ⌜ r ≡ placedOf (placed p form (afterD (drop 1 (now (w .entry))))) ⌝ }
+{
+    if w.len() < 2 {
+        return Placed::Fault(13);
+    }
+    if upper(w[1]) != b'M' {
+        return Placed::Fault(13);
+    }
+    if form / 4 % 2 == 1 {
+        return indexed(2, p.b, read_digits(w, 2));
+    }
+    Placed::Fault(13)
+}
+
+// The word of a number.
+fn literal_word(z: i32) -> u32
+    requires { ⌜ mag z < 2 ^ 29 ⌝ }
+    ensures { λ r. ⌜ r ≡ wordOf 3 (numberBits z) ⌝ }
+{
+    if z < 0 {
+        return (4294967296 + z as i64) as u32;
+    }
+    3221225472 + z as u32
+}
+
+// A number.
+fn number_word(w: &[u8], form: u32, p: Parameters, m: u32) -> Placed
+    requires { ⌜ Fit p × (m ≡ limit (p .k)) ⌝ }
+    ensures { λ r. ⌜ r ≡ placedOf (placed p form (mapped literal (number (now (w .entry))))) ⌝ }
+{
+    if form / 8 % 2 != 1 {
+        return Placed::Fault(13);
+    }
+    let r = read_number(w, m);
+    match r {
+        Reading::NotANumber => Placed::Fault(13),
+        Reading::Outside => Placed::Fault(14),
+        Reading::Number(z) => Placed::Word(literal_word(z)),
+    }
+}
+
+// The argument at a place of this form.
+pub fn argument_word(w: &[u8], form: u32, p: Parameters, m: u32) -> Placed
+    requires { ⌜ Fit p × (m ≡ limit (p .k)) ⌝ }
+    ensures { λ r. ⌜ r ≡ placedOf (placed p form (argument (now (w .entry)))) ⌝ }
+{
+    if w.len() == 0 {
+        return Placed::Fault(13);
+    }
+    let b = upper(w[0]);
+    if b == b'R' {
+        return register_word(w, form, p);
+    }
+    if b == b'D' {
+        return direct_word(w, form, p);
+    }
+    let r = special(w);
+    if r == 0 {
+        return number_word(w, form, p, m);
+    }
+    if form / 2 % 2 == 1 {
+        return Placed::Word(1073741824 + r);
+    }
+    Placed::Fault(13)
+}
