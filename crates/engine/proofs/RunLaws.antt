@@ -20,7 +20,7 @@ use Rattle.model.specs.Grants.{Standing, Stop, advance, run}
 use Rattle.model.specs.Images.{cellFits}
 use Rattle.model.specs.Instructions.{rowOf}
 use Rattle.model.specs.Machine.{Look, stops, goes, lookAt}
-use Rattle.model.specs.Step.{Environment, State, Tak, currentCell, stateStatus, stepCost, stepValues, step, execute, settled, environmentOf}
+use Rattle.model.specs.Step.{Environment, Memory, State, Tak, currentCell, stateStatus, stepCost, stepValues, step, execute, settled, environmentOf}
 use Rattle.model.specs.declared.Ending.{Ending}
 use Rattle.effects.specs.Effects.{outputAfter}
 use Rattle.image.specs.Decode.{instructionOf, cellFrom}
@@ -28,7 +28,7 @@ use Rattle.engine.specs.Looks.{foundOf, foundAt}
 use Rattle.engine.specs.declared.looks.Found.the-variants.{Stops, Runs}
 use Rattle.engine.specs.declared.looks.Found.{Found}
 use Rattle.engine.specs.declared.looks.Offer.{Offer}
-use Rattle.operands.specs.Cores.{stateOf}
+use Rattle.operands.specs.Cores.{stateIn}
 use Rattle.operands.specs.declared.Core.{Core}
 use Rattle.steps.specs.Steppable.{written, Steppable}
 use Rattle.engine.specs.Runs.{Runnable, stopAt, RunIs}
@@ -87,30 +87,30 @@ sound-image h =
     }
 
 -- THE LOOP, from where a run began.
-module _ (e : Environment) (start : Core) (before granted : ℕ) (registers₀ cells₀ slice₀ : List ℤ) where
-  abbrev standing : Core → (spent count : ℕ) (registers cells slice : List ℤ) → Standing State
-  standing at spent count registers cells slice = record { state = stateOf at registers cells; spent = spent; written = take count slice }
+module _ (e : Environment) (start : Core) (before granted : ℕ) (memory₀ : Memory) (slice₀ : List ℤ) where
+  abbrev standing : Core → (spent count : ℕ) (memory : Memory) (slice : List ℤ) → Standing State
+  standing at spent count memory slice = record { state = stateIn at memory; spent = spent; written = take count slice }
 
   -- To go on from here is to go on from the beginning; the slice behind the values written is as it came.
-  pub record Going-on (at : Core) (spent count : ℕ) (registers cells slice : List ℤ) : Type 0 where
-    pub same : stopAt e start before granted registers₀ cells₀ slice₀ ≡ run (Tak e) granted (length slice₀) (standing at spent count registers cells slice)
+  pub record Going-on (at : Core) (spent count : ℕ) (memory : Memory) (slice : List ℤ) : Type 0 where
+    pub same : stopAt e start before granted memory₀ slice₀ ≡ run (Tak e) granted (length slice₀) (standing at spent count memory slice)
     pub rest : drop count slice ≡ drop count slice₀
     pub within : count ≤ length slice
     pub long : length slice ≡ length slice₀
     pub paid : spent ≤ granted
     pub rises : before ≤ spent
-    pub sound : Sound e (stateOf at registers cells)
+    pub sound : Sound e (stateIn at memory)
 
-  pub begins : before ≤ granted → Sound e (stateOf start registers₀ cells₀) → Going-on start before 0 registers₀ cells₀ slice₀
+  pub begins : before ≤ granted → Sound e (stateIn start memory₀) → Going-on start before 0 memory₀ slice₀
   begins p s =
       record { same = refl; rest = refl; within = omega arith; long = refl; paid = p; rises = le-refl before; sound = s }
 
-module _ {e : Environment} {start : Core} {before granted : ℕ} {registers₀ cells₀ slice₀ : List ℤ} {m : ℕ} {prices : List ℕ}
-    (h : Runnable e m prices start before granted registers₀ cells₀)
-    {at : Core} {spent count : ℕ} {registers cells slice : List ℤ}
-    (g : Going-on e start before granted registers₀ cells₀ slice₀ at spent count registers cells slice) where
+module _ {e : Environment} {start : Core} {before granted : ℕ} {memory₀ : Memory} {slice₀ : List ℤ} {m : ℕ} {prices : List ℕ}
+    (h : Runnable e m prices start before granted memory₀)
+    {at : Core} {spent count : ℕ} {memory : Memory} {slice : List ℤ}
+    (g : Going-on e start before granted memory₀ slice₀ at spent count memory slice) where
   abbrev s : State
-  s = stateOf at registers cells
+  s = stateIn at memory
 
   abbrev pub found : Found
   found = foundAt e s (granted - spent) (length slice - count)
@@ -118,18 +118,18 @@ module _ {e : Environment} {start : Core} {before granted : ℕ} {registers₀ c
   abbrev seen : Look
   seen = lookAt (Tak e) s (granted - spent) (length slice - count)
 
-  next-run : run (Tak e) granted (length slice₀) (standing e start before granted registers₀ cells₀ slice₀ at spent count registers cells slice)
+  next-run : run (Tak e) granted (length slice₀) (standing e start before granted memory₀ slice₀ at spent count memory slice)
       ≡ elim seen [
-        | stops x ↦ record { ending = x; at = standing e start before granted registers₀ cells₀ slice₀ at spent count registers cells slice }
-        | goes ↦ run (Tak e) granted (length slice₀) (advance (Tak e) (standing e start before granted registers₀ cells₀ slice₀ at spent count registers cells slice))
+        | stops x ↦ record { ending = x; at = standing e start before granted memory₀ slice₀ at spent count memory slice }
+        | goes ↦ run (Tak e) granted (length slice₀) (advance (Tak e) (standing e start before granted memory₀ slice₀ at spent count memory slice))
       ]
   next-run =
-      tak-run e (h .fit) granted (length slice₀) (standing e start before granted registers₀ cells₀ slice₀ at spent count registers cells slice)
+      tak-run e (h .fit) granted (length slice₀) (standing e start before granted memory₀ slice₀ at spent count memory slice)
       ∙ rw (length-take-le count slice (g .within), g .long)
 
   -- A look that stops: all is as `run` of model says.
   pub stopped : {x : Ending} → Stops x ≡ found →
-      RunIs e start before granted registers₀ cells₀ slice₀ (record { ending = x; core = at; spent = spent; count = count }) registers cells slice
+      RunIs e start before granted memory₀ slice₀ (record { ending = x; core = at; spent = spent; count = count }) memory slice
   stopped {x} f =
       record {
         ending = ap (λ (t : Stop State). t .ending) is;
@@ -141,7 +141,7 @@ module _ {e : Environment} {start : Core} {before granted : ℕ} {registers₀ c
         rises = g .rises;
       }
     where
-      is : record { ending = x; at = standing e start before granted registers₀ cells₀ slice₀ at spent count registers cells slice } ≡ stopAt e start before granted registers₀ cells₀ slice₀
+      is : record { ending = x; at = standing e start before granted memory₀ slice₀ at spent count memory slice } ≡ stopAt e start before granted memory₀ slice₀
       is = sym (g .same ∙ next-run ∙ rw (found-stops e s seen f))
 
       n : length (take count slice) ≡ count
@@ -176,14 +176,14 @@ module _ {e : Environment} {start : Core} {before granted : ℕ} {registers₀ c
         let r = is-running e s (going .run) in
         cell-fits (e .parameters) (e .parameters .t) (e .image) (at .iar) (h .image-fits) (omega (arith, g .sound .iar, r .iar)) (r .cell)
 
-    values-are : written (o .instruction) at registers cells ≡ stepValues e s
+    values-are : written (o .instruction) at memory ≡ stepValues e s
     unfolding stepValues
     values-are = rw is-offered
 
     part-length : length (take (length slice - count) (drop count slice)) ≡ length slice - count
     part-length = length-take-le (length slice - count) (drop count slice) (rw length-drop (le-refl _))
 
-    pub steppable : Steppable (o .instruction) (e .parameters) m at (e .input) registers cells (length (take (length slice - count) (drop count slice)))
+    pub steppable : Steppable (environmentOf (e .parameters) [] (e .input)) m (o .instruction) at memory (length (take (length slice - count) (drop count slice)))
     steppable =
         record {
           fit = h .fit;
@@ -193,11 +193,11 @@ module _ {e : Environment} {start : Core} {before granted : ℕ} {registers₀ c
           room-for = rw (part-length, values-are) (ltb-false (length slice - count) (length (stepValues e s)) (going .room));
         }
 
-    module _ (next : Core) {registers′ cells′ part slice′ : List ℤ}
-        (stepped : stateOf next registers′ cells′ ≡ settled s (execute e (rowOf (o .instruction .number) .operation) (cellFrom (o .instruction)) s))
-        (output : part ≡ outputAfter (written (o .instruction) at registers cells) (take (length slice - count) (drop count slice)))
+    module _ (next : Core) {memory′ : Memory} {part slice′ : List ℤ}
+        (stepped : stateIn next memory′ ≡ settled s (execute e (rowOf (o .instruction .number) .operation) (cellFrom (o .instruction)) s))
+        (output : part ≡ outputAfter (written (o .instruction) at memory) (take (length slice - count) (drop count slice)))
         (came-back : slice′ ≡ putMid count (length slice - count) slice part) where
-      is-step : stateOf next registers′ cells′ ≡ step e s
+      is-step : stateIn next memory′ ≡ step e s
       unfolding step
       is-step = stepped ∙ rw is-offered
 
@@ -210,7 +210,7 @@ module _ {e : Environment} {start : Core} {before granted : ℕ} {registers₀ c
       is-wrote : slice′ ≡ take count slice ++ outputAfter v (drop count slice)
       is-wrote = came-back ∙ put-end count slice part ∙ ap (λ (l : List ℤ). take count slice ++ l) (output ∙ rw (values-are, part-to-end))
 
-      pub goes-on : Going-on e start before granted registers₀ cells₀ slice₀ next (spent + o .cost) (count + o .values) registers′ cells′ slice′
+      pub goes-on : Going-on e start before granted memory₀ slice₀ next (spent + o .cost) (count + o .values) memory′ slice′
       unfolding advance
       goes-on =
           rw (is-offered, is-wrote)

@@ -1,7 +1,7 @@
 // Looks and steps until one of the endings holds.
 pub mod looks;
 
-ghost use Rattle.model.specs.Step.{environmentOf};
+ghost use Rattle.model.specs.Step.{asMemory, environmentOf};
 ghost use Rattle.engine.specs.Runs.{Runnable, RunIs};
 use crate::looks::Found;
 use crate::looks::look;
@@ -32,8 +32,10 @@ pub fn run(
     cells: &mut [i32],
     out: &mut [i32],
 ) -> Ran
-    requires { ⌜ Runnable (environmentOf p (now image) (now input)) m (now prices) start before granted (now registers) (now cells) ⌝ }
-    ensures { λ r. ⌜ RunIs (environmentOf p (now (image .entry)) (now (input .entry))) start before granted (now (registers .entry)) (now (cells .entry)) (now (out .entry)) r (now (registers .exit)) (now (cells .exit)) (now (out .exit)) ⌝ }
+    requires { ⌜ Runnable (environmentOf p (now image) (now input)) m (now prices) start before granted (asMemory (now registers) (now cells)) ⌝ }
+    ensures { λ r. ⌜ RunIs (environmentOf p (now (image .entry)) (now (input .entry))) start before granted
+        (asMemory (now (registers .entry)) (now (cells .entry))) (now (out .entry))
+        r (asMemory (now (registers .exit)) (now (cells .exit))) (now (out .exit)) ⌝ }
 {
     let mut at = start;
     let mut spent = before;

@@ -7,16 +7,16 @@ use mathlib.Core.List.{List, [], _∷_, _++_}
 use mathlib.Core.Logic.{_↔_}
 use native.Mathlib.Omega.{arith}
 use lib.Dec.{leb}
-use lib.IntN.{ℤ}
 use lib.ListN.{length, take, replicate, length-replicate}
 use borrow.Author.Tests.{leb-true}
 use Rattle.model.specs.declared.Parameters.{Parameters}
 use Rattle.model.specs.declared.LoadReply.{LoadReply}
 use Rattle.model.specs.declared.LoadReply.the-variants.{Accepted, Refused}
-use Rattle.model.specs.Parameters.{Check, _unless_, refusalOf, Fit}
+use Rattle.model.specs.Parameters.{Check, refusalOf, Fit}
 use Rattle.model.specs.Words.{Cell, cellWords}
 use Rattle.model.specs.Load.{lines, Checked, fine, fault, words, lineOf, linesReply, linesWords, textReply, imageOf}
-use Rattle.model.specs.Calls.{sizeChecks}
+use Rattle.model.specs.Calls.{imageCheck, sizeChecks}
+use Rattle.model.specs.Step.{Environment, Memory}
 use Rattle.model.specs.Images.{Yields, NoTextYields, cellFits, allZero, cellsFit, imageFits}
 use Rattle.model.proofs.Fits.{and-both, Numbered, all-fit, lacks, only-number, Limits, limits, sizes-numbered, sizes-lack, sizes-fit}
 use Rattle.model.proofs.Cells.{zero-take, zero-empty}
@@ -89,7 +89,7 @@ module _ (p : Parameters) (image : List ℕ) (earlier later : List Check) (numbe
     (before : lacks 10 earlier ≡ true) (after : lacks 10 later ≡ true)
     (sized : refusalOf earlier ≡ 0 → Fit p × (length image ≡ 4 * p .t)) where
   abbrev number : ℕ
-  number = refusalOf (earlier ++ (10 unless (imageFits p image) ∷ later))
+  number = refusalOf (earlier ++ (imageCheck p image ∷ later))
 
   by-cells : (number ≡ 10) ↔ ((refusalOf earlier ≡ 0) × (imageFits p image ≡ false))
   by-cells = only-number 10 (imageFits p image) later (omega arith) after earlier numbered before
@@ -118,18 +118,19 @@ module _ (p : Parameters) (image : List ℕ) (earlier later : List Check) (numbe
       go false e = absurd (n (by-cells .1 (h, e)))
 
 -- Those that begin "1..6; 9 ..; 10", as start's and grant's do.
-module _ (p : Parameters) (image : List ℕ) (registers cells : List ℤ) (later : List Check) (after : lacks 10 later ≡ true) where
+module _ (e : Environment) (m : Memory) (later : List Check) (after : lacks 10 later ≡ true) where
+  abbrev p : Parameters
+  p = e .parameters
+
   abbrev sizes : List Check
-  sizes = sizeChecks p image registers cells
+  sizes = sizeChecks e m
 
-  passed : refusalOf sizes ≡ 0 → Fit p × (length image ≡ 4 * p .t)
-  passed h =
-      let s = sizes-fit p image registers cells (all-fit sizes (sizes-numbered p image registers cells) h) in
-      (s .0, s .1)
+  passed : refusalOf sizes ≡ 0 → Fit p × (length (e .image) ≡ 4 * p .t)
+  passed h = let s = sizes-fit e m (all-fit sizes (sizes-numbered e m) h) in (s .0, s .1)
 
-  pub sized-gives-10 : (refusalOf (sizes ++ (10 unless (imageFits p image) ∷ later)) ≡ 10) ↔ ((refusalOf sizes ≡ 0) × NoTextYields p image)
-  sized-gives-10 = gives-10 p image sizes later (sizes-numbered p image registers cells) (sizes-lack p image registers cells) after passed
+  pub sized-gives-10 : (refusalOf (sizes ++ (imageCheck p (e .image) ∷ later)) ≡ 10) ↔ ((refusalOf sizes ≡ 0) × NoTextYields p (e .image))
+  sized-gives-10 = gives-10 p (e .image) sizes later (sizes-numbered e m) (sizes-lack e m) after passed
 
-  pub sized-unless-10 : refusalOf sizes ≡ 0 → ¬ (refusalOf (sizes ++ (10 unless (imageFits p image) ∷ later)) ≡ 10) →
-      (text : List ℕ) × Yields p text image
-  sized-unless-10 = unless-10 p image sizes later (sizes-numbered p image registers cells) (sizes-lack p image registers cells) after passed
+  pub sized-unless-10 : refusalOf sizes ≡ 0 → ¬ (refusalOf (sizes ++ (imageCheck p (e .image) ∷ later)) ≡ 10) →
+      (text : List ℕ) × Yields p text (e .image)
+  sized-unless-10 = unless-10 p (e .image) sizes later (sizes-numbered e m) (sizes-lack e m) after passed

@@ -12,92 +12,78 @@ use Rattle.model.proofs.Fits.{start-accepted, GrantFits, grant-accepted}
 use Rattle.model.proofs.GrantKeeps.{AccountSound, record-sound, started-accepted}
 use Rattle.model.proofs.Lists as lists
 use Rattle.model.proofs.Refusals.{start-refused, grant-refused, grant-number}
-use Rattle.model.specs.Calls.{freshRecord, zeroRecord, startChecks, Started, accountOf, recordOf, Granted, granted, grantedBy, grantRefusal, outcomeNumber, outcomeWord, stopWord}
+use Rattle.model.specs.Calls.{Held, asStarted, heldAfter, environmentFor, freshRecord, zeroRecord, startChecks, accountOf, recordOf, Granted, granted, grantedBy, grantRefusal, outcomeNumber, outcomeWord, stopWord}
 use Rattle.model.specs.Grants.{Call, Account, accept, handBack}
 use Rattle.model.specs.Parameters.{refusalOf, limit}
-use Rattle.model.specs.Step.{Environment, State, Tak, environmentOf}
-use Rattle.model.specs.declared.GrantReply.{GrantReply}
+use Rattle.model.specs.Step.{Environment, Memory, State, Tak}
 use Rattle.model.specs.declared.Outcome.the-variants.{Refused, Stopped}
-use Rattle.model.specs.declared.Parameters.{Parameters}
 use Rattle.model.specs.declared.Record.{Record}
 use Rattle.engine.specs.Runs.{Runnable, stopAt, RunIs}
 use Rattle.engine.specs.declared.Ran.{Ran}
-use Rattle.operands.specs.Cores.{stateOf}
+use Rattle.operands.specs.Cores.{stateIn}
 use Rattle.operands.specs.declared.Core.{Core}
 use Rattle.prices.specs.Prices.{priceTable}
 use Rattle.machine.specs.Contracts.{StartIs, GrantIs}
 
 -- START
-module _ (p : Parameters) (image : List ℕ) (registers cells : List ℤ) where
-  pub start-refuses : (k : ℕ) → k ≡ refusalOf (startChecks p image registers cells) → ¬ (k ≡ 0) →
-      StartIs p image registers cells (record { refusal = k; rec = zeroRecord }) registers cells
-  start-refuses zero e n = absurd (n refl)
-  start-refuses (suc k) e n =
-      let x = sym (start-refused p image registers cells k (sym e)) in
-      record {
-        reply = ap (λ (r : Started). r .reply) x;
-        registers = ap (λ (r : Started). r .registers) x;
-        cells = ap (λ (r : Started). r .cells) x;
-      }
+module _ (e : Environment) (m : Memory) where
+  pub start-refuses : (k : ℕ) → k ≡ refusalOf (startChecks e m) → ¬ (k ≡ 0) →
+      StartIs e m (record { reply = record { refusal = k; rec = zeroRecord }; memory = m })
+  start-refuses zero h n = absurd (n refl)
+  start-refuses (suc k) h n = record { given = sym (start-refused e m k (sym h)) }
 
-  pub start-accepts : (k : ℕ) → k ≡ refusalOf (startChecks p image registers cells) → k ≡ 0 → {registers′ cells′ : List ℤ} →
-      registers′ ≡ replicate (length registers) (pos 0) → cells′ ≡ replicate (length cells) (pos 0) →
-      StartIs p image registers cells (record { refusal = 0; rec = freshRecord p }) registers′ cells′
-  start-accepts k e z r c =
-      let h = sym e ∙ z in
-      let fits = start-accepted p image registers cells h in
-      let x = sym (started-accepted (environmentOf p image []) registers cells h) in
-      record {
-        reply = ap (λ (s : Started). s .reply) x;
-        registers = r ∙ ap (λ (n : ℕ). replicate n (pos 0)) (fits .register-count) ∙ ap (λ (s : Started). s .registers) x;
-        cells = c ∙ ap (λ (n : ℕ). replicate n (pos 0)) (fits .cell-count) ∙ ap (λ (s : Started). s .cells) x;
-      }
+  pub start-accepts : (k : ℕ) → k ≡ refusalOf (startChecks e m) → k ≡ 0 → {registers′ cells′ : List ℤ} →
+      registers′ ≡ replicate (length (m .registers)) (pos 0) → cells′ ≡ replicate (length (m .cells)) (pos 0) →
+      StartIs e m (asStarted (record { refusal = 0; rec = freshRecord (e .parameters) }) registers′ cells′)
+  start-accepts k q z r c =
+      let h = sym q ∙ z in
+      let sized = start-accepted e m h .sized in
+      record { given = rw (r, c, sized .register-count, sized .cell-count) (sym (started-accepted e m h)) }
 
 -- GRANT
-module _ (image input : List ℕ) (rec : Record) (cycles : ℕ) (registers cells out : List ℤ) where
+module _ (lent : Environment) (held : Held) (c : Call) where
   abbrev e : Environment
-  e = environmentOf (rec .parameters) image input
+  e = environmentFor lent held
 
   abbrev account : Account State
-  account = accountOf rec registers cells
-
-  abbrev call : Call
-  call = record { cycles = cycles; slice = out }
+  account = accountOf held
 
   -- The word of what a grant hands back.
   abbrev wordOf : Granted → List ℕ
-  wordOf g =
-      cond (eqb (grantRefusal e account call) 0) (stopWord e (accountOf (g .reply .rec) (g .registers) (g .cells)) (length out - g .reply .values)) []
+  wordOf x = cond (eqb (grantRefusal e account c) 0) (stopWord e (accountOf (heldAfter x)) (length (c .slice) - x .reply .values)) []
 
-  promised : {r : GrantReply} {registers′ cells′ out′ : List ℤ} →
-      record { reply = r; registers = registers′; cells = cells′; slice = out′ } ≡ granted image input rec registers cells call →
-      GrantIs image input rec cycles registers cells out r registers′ cells′ out′
-  promised x =
+  pub promised : {x : Granted} → x ≡ granted lent held c → GrantIs lent held c x
+  promised q =
       record {
-        reply = ap (λ (g : Granted). g .reply) x;
-        number = ap (λ (g : Granted). outcomeNumber (g .reply .outcome)) x ∙ grant-number image input rec registers cells call;
-        word = ap (λ (g : Granted). outcomeWord (g .reply .outcome)) x ∙ grant-word image input rec registers cells call ∙ ap wordOf (sym x);
-        registers = ap (λ (g : Granted). g .registers) x;
-        cells = ap (λ (g : Granted). g .cells) x;
-        slice = ap (λ (g : Granted). g .slice) x;
+        given = q;
+        number = ap (λ (g : Granted). outcomeNumber (g .reply .outcome)) q ∙ grant-number lent held c;
+        word = ap (λ (g : Granted). outcomeWord (g .reply .outcome)) q ∙ grant-word lent held c ∙ ap wordOf (sym q);
       }
 
-  pub grant-refuses : (k : ℕ) → k ≡ grantRefusal e account call → ¬ (k ≡ 0) →
-      GrantIs image input rec cycles registers cells out (record { outcome = Refused k; rec = rec; values = 0; cycles = 0 }) registers cells out
+  pub grant-refuses : (k : ℕ) → k ≡ grantRefusal e account c → ¬ (k ≡ 0) →
+      GrantIs lent held c
+      (record { reply = record { outcome = Refused k; rec = held .rec; values = 0; cycles = 0 }; memory = held .memory; slice = c .slice })
   grant-refuses zero h n = absurd (n refl)
-  grant-refuses (suc k) h n = promised (sym (grant-refused image input rec registers cells call k (sym h)))
+  grant-refuses (suc k) h n = promised (sym (grant-refused lent held c k (sym h)))
 
   -- What passed checks say.
-  module _ {k : ℕ} (h : k ≡ grantRefusal e account call) (z : k ≡ 0) where
-    pub fits : GrantFits e account call
-    fits = grant-accepted e account call (sym h ∙ z)
+  module _ {k : ℕ} (h : k ≡ grantRefusal e account c) (z : k ≡ 0) where
+    pub fits : GrantFits e account c
+    fits = grant-accepted e account c (sym h ∙ z)
 
     pub sound : AccountSound e account
-    sound = record-sound e account (fits .record-fits) (fits .start .register-count) (fits .start .cell-count)
+    sound = record-sound e account (fits .record-fits) (fits .start .sized)
 
-    module _ (start : Core) (at-start : stateOf start registers cells ≡ account .state) where
-      pub runnable : {m : ℕ} {prices : List ℕ} → m ≡ limit (rec .parameters .k) → prices ≡ priceTable →
-          Runnable e m prices start (rec .spent) (rec .granted + cycles) registers cells
+    -- The cycles before the run, and those granted with it.
+    abbrev before : ℕ
+    before = held .rec .spent
+
+    abbrev total : ℕ
+    total = held .rec .granted + c .cycles
+
+    module _ (start : Core) (at-start : stateIn start (held .memory) ≡ account .state) where
+      pub runnable : {m : ℕ} {prices : List ℕ} → m ≡ limit (e .parameters .k) → prices ≡ priceTable →
+          Runnable e m prices start before total (held .memory)
       runnable l t =
           record {
             fit = fits .start .fit;
@@ -110,41 +96,43 @@ module _ (image input : List ℕ) (rec : Record) (cycles : ℕ) (registers cells
           }
 
       -- Where the run stops is what the definition hands back.
-      handed-back : grantedBy (rec .parameters) (handBack account call (stopAt e start (rec .spent) (rec .granted + cycles) registers cells out))
-          ≡ granted image input rec registers cells call
+      handed-back : grantedBy (e .parameters) (handBack account c (stopAt e start before total (held .memory) (c .slice))) ≡ granted lent held c
       unfolding granted accept
-      handed-back = rw (lists.grant-accepted (Tak e) (grantRefusal e) account call (sym h ∙ z), at-start)
+      handed-back = rw (lists.grant-accepted (Tak e) (grantRefusal e) account c (sym h ∙ z), at-start)
 
-      module _ {r : Ran} {registers′ cells′ out′ : List ℤ}
-          (ran : RunIs e start (rec .spent) (rec .granted + cycles) registers cells out r registers′ cells′ out′) where
-        pub grant-accepts : {rec′ : Record} →
-            rec′ ≡ recordOf (rec .parameters) (record { state = stateOf (r .core) [] []; granted = rec .granted + cycles; spent = r .spent }) →
-            GrantIs image input rec cycles registers cells out
-            (record { outcome = Stopped (r .ending); rec = rec′; values = r .count; cycles = r .spent - rec .spent }) registers′ cells′ out′
+      module _ {r : Ran} {memory′ : Memory} {out′ : List ℤ} (ran : RunIs e start before total (held .memory) (c .slice) r memory′ out′) where
+        abbrev recordAt : State → (spent : ℕ) → Record
+        recordAt s spent = recordOf (e .parameters) (record { state = s; granted = total; spent = spent })
+
+        pub grant-accepts : {rec′ : Record} → rec′ ≡ recordAt (stateIn (r .core) memory′) (r .spent) →
+            GrantIs lent held c
+            (record {
+              reply = record { outcome = Stopped (r .ending); rec = rec′; values = r .count; cycles = r .spent - before };
+              memory = memory′;
+              slice = out′;
+            })
         unfolding handBack
         grant-accepts q = promised (rw q same ∙ handed-back)
           where
             same : record {
               reply = record {
                 outcome = Stopped (r .ending);
-                rec = recordOf (rec .parameters) (record { state = stateOf (r .core) [] []; granted = rec .granted + cycles; spent = r .spent });
+                rec = recordAt (stateIn (r .core) memory′) (r .spent);
                 values = r .count;
-                cycles = r .spent - rec .spent;
+                cycles = r .spent - before;
               };
-              registers = registers′;
-              cells = cells′;
+              memory = memory′;
               slice = out′;
             }
-                ≡ grantedBy (rec .parameters) (handBack account call (stopAt e start (rec .spent) (rec .granted + cycles) registers cells out))
+                ≡ grantedBy (e .parameters) (handBack account c (stopAt e start before total (held .memory) (c .slice)))
             same i =
                 record {
                   reply = record {
                     outcome = Stopped (ran .ending i);
-                    rec = recordOf (rec .parameters) (record { state = ran .state i; granted = rec .granted + cycles; spent = ran .spent i });
+                    rec = recordAt (ran .state i) (ran .spent i);
                     values = ran .count i;
-                    cycles = ran .spent i - rec .spent;
+                    cycles = ran .spent i - before;
                   };
-                  registers = ran .state i .registers;
-                  cells = ran .state i .cells;
+                  memory = record { registers = ran .state i .registers; cells = ran .state i .cells };
                   slice = ran .slice i;
                 }

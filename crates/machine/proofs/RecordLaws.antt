@@ -1,6 +1,6 @@
 -- The test of a record and its memory, refusal 15. Assumes nothing.
 use Prim.Native.Nat.{ℕ, suc, _+_, _^_, _≤_, _<_}
-use mathlib.Core.Bool.{Bool, true, false, _&&_, and-assoc}
+use mathlib.Core.Bool.{Bool, true, false, _&&_, and-assoc, and-true}
 use mathlib.Core.List.{List}
 use mathlib.Core.Path.{_≡_, refl, sym, ap, _∙_}
 use native.Mathlib.Numerals.{add-one}
@@ -14,9 +14,11 @@ use borrow.Author.Tests.{le-leb, lt-leb}
 use mir.Facts.{toZ-ofZ, toZ-pos}
 use mir.Syntax.{w32, w64}
 use mir.Val.{SFits, toZ, ofZ}
-use Rattle.model.specs.Calls.{allInRange, recordFits, accountOf}
+use Rattle.model.proofs.Fits.{pass-append}
+use Rattle.model.specs.Calls.{Held, allInRange, recordTests, memoryTests, recordFits, accountOf}
 use Rattle.model.specs.Parameters.{limit, inRange}
 use Rattle.model.specs.Step.{environmentOf}
+use Rattle.model.specs.declared.Parameters.{Parameters}
 use Rattle.model.specs.declared.Record.{Record}
 use Rattle.cells.proofs.Integers.{mag-minus}
 use Rattle.machine.specs.Checks.{headFits, numbersFit}
@@ -67,8 +69,8 @@ module _ (r : Record) (input : ℕ) where
       abbrev heads : Bool
       heads = headFits (r .parameters .b) (r .parameters .s) (r .shr)
 
-      behind : numbersFit r input ≡ (heads && leb (r .spent) (r .granted) && leb (r .granted) 1_000_000_000_000_000 && leb (r .place) input)
-      behind = rw (le-leb _ _ iar, le-leb _ _ ircr)
+      behind : numbersFit r input ≡ (heads && (leb (r .spent) (r .granted) && (leb (r .granted) 1_000_000_000_000_000 && (leb (r .place) input && true))))
+      behind = rw (le-leb _ _ iar, le-leb _ _ ircr) (sym (and-assoc (leZ (pos (r .parameters .b) -ℤ pos 1) (r .shr)) _ _))
 
       pub by-head : heads ≡ false → false ≡ numbersFit r input
       by-head h = sym (behind ∙ rw h)
@@ -82,23 +84,32 @@ module _ (r : Record) (input : ℕ) where
           by-granted h = sym (behind ∙ rw (head, le-leb _ _ spent, lt-leb _ _ h))
 
           pub by-place : r .granted ≤ 1_000_000_000_000_000 → leb (r .place) input ≡ numbersFit r input
-          by-place h = sym (behind ∙ rw (head, le-leb _ _ spent, le-leb _ _ h))
+          by-place h = sym (behind ∙ rw (head, le-leb _ _ spent, le-leb _ _ h, and-true))
 
 -- THE RECORD: its numbers, the registers and the data cells.
-module _ (r : Record) (image input : List ℕ) (registers cells : List ℤ) where
+module _ (image input : List ℕ) (held : Held) where
+  abbrev p : Parameters
+  p = held .rec .parameters
+
+  abbrev k : ℕ
+  k = p .k
+
   abbrev fits : Bool
-  fits = recordFits (environmentOf (r .parameters) image input) (accountOf r registers cells)
+  fits = recordFits (environmentOf p image input) (accountOf held)
 
-  parts : fits ≡ (numbersFit r (length input) && allInRange (limit (r .parameters .k)) registers && allInRange (limit (r .parameters .k)) cells)
+  abbrev numbers : Bool
+  numbers = numbersFit (held .rec) (length input)
+
+  parts : fits ≡ (numbers && (allInRange (limit k) (held .memory .registers) && (allInRange (limit k) (held .memory .cells) && true)))
   unfolding recordFits
-  parts = refl
+  parts = pass-append (recordTests p (length input) (accountOf held)) (memoryTests p (held .memory))
 
-  pub by-numbers : numbersFit r (length input) ≡ false → false ≡ fits
+  pub by-numbers : numbers ≡ false → false ≡ fits
   by-numbers h = sym (parts ∙ rw h)
 
-  module _ (numbers : numbersFit r (length input) ≡ true) (m : ℕ) (is : m ≡ limit (r .parameters .k)) where
-    pub by-registers : allInRange m registers ≡ false → false ≡ fits
-    by-registers h = sym (parts ∙ rw (numbers, sym is, h))
+  module _ (passed : numbers ≡ true) (m : ℕ) (is : m ≡ limit k) where
+    pub by-registers : allInRange m (held .memory .registers) ≡ false → false ≡ fits
+    by-registers h = sym (parts ∙ rw (passed, sym is, h))
 
-    pub by-cells : allInRange m registers ≡ true → allInRange m cells ≡ fits
-    by-cells h = sym (parts ∙ rw (numbers, sym is, h))
+    pub by-cells : allInRange m (held .memory .registers) ≡ true → allInRange m (held .memory .cells) ≡ fits
+    by-cells h = sym (parts ∙ rw (passed, sym is, h, and-true))

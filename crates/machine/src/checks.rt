@@ -1,13 +1,13 @@
 // The checks of the calls start and grant.
 ghost use mathlib.Core.Path.{_≡_};
 ghost use mathlib.Core.Bool.{_&&_};
-ghost use mathlib.Core.List.{List};
+ghost use mathlib.Core.List.{List, []};
 ghost use Prim.Native.Nat.{ℕ, _≤_};
 ghost use lib.IntN.{ℤ};
 ghost use Rattle.model.specs.Parameters.{refusalOf, Fit};
-ghost use Rattle.model.specs.Calls.{startChecks, allInRange, recordFits, grantRefusal, accountOf};
+ghost use Rattle.model.specs.Calls.{asHeld, asCall, shapeChecks, memoryFits, startChecks, allInRange, recordFits, grantRefusal, accountOf};
 ghost use Rattle.cells.specs.Cells.{IsLimit};
-ghost use Rattle.model.specs.Step.{environmentOf};
+ghost use Rattle.model.specs.Step.{asMemory, environmentOf};
 ghost use Rattle.machine.specs.Checks.{headFits, numbersFit, cyclesFit};
 use cells::limits::limit_of;
 use cells::limits::parameter_refusal;
@@ -16,9 +16,9 @@ use image::check::image_fits;
 use model::Parameters;
 use model::Record;
 
-// Start's refusal: 1 to 6, 9 and 10, in that order; 0 if there is none.
-pub fn start_refusal(p: Parameters, image: &[u32], registers: &[i32], cells: &[i32]) -> u32
-    ensures { λ r. ⌜ r ≡ refusalOf (startChecks p (now (image .entry)) (now (registers .entry)) (now (cells .entry))) ⌝ }
+// 1 to 6: the parameters, and the length of the image slice; 0 if there is no refusal.
+fn shape_refusal(p: Parameters, image: &[u32]) -> u32
+    ensures { λ r. ⌜ r ≡ refusalOf (shapeChecks p (now (image .entry))) ⌝ }
 {
     let refusal = parameter_refusal(p);
     if refusal != 0 {
@@ -27,10 +27,28 @@ pub fn start_refusal(p: Parameters, image: &[u32], registers: &[i32], cells: &[i
     if image.len() != 4 * (p.t as usize) {
         return 6;
     }
+    0
+}
+
+// Not 9: the lengths of registers and data cells are the parameters'.
+fn memory_fits(p: Parameters, registers: &[i32], cells: &[i32]) -> bool
+    ensures { λ r. ⌜ r ≡ memoryFits p (asMemory (now (registers .entry)) (now (cells .entry))) ⌝ }
+{
     if registers.len() != p.n as usize {
-        return 9;
+        return false;
     }
-    if cells.len() != p.s as usize {
+    cells.len() == p.s as usize
+}
+
+// Start's refusal: 1 to 6, 9 and 10, in that order; 0 if there is none.
+pub fn start_refusal(p: Parameters, image: &[u32], registers: &[i32], cells: &[i32]) -> u32
+    ensures { λ r. ⌜ r ≡ refusalOf (startChecks (environmentOf p (now (image .entry)) []) (asMemory (now (registers .entry)) (now (cells .entry)))) ⌝ }
+{
+    let refusal = shape_refusal(p, image);
+    if refusal != 0 {
+        return refusal;
+    }
+    if !memory_fits(p, registers, cells) {
         return 9;
     }
     if !image_fits(p, image) {
@@ -97,7 +115,7 @@ fn numbers_fit(rec: Record, input: usize) -> bool
 // The record and the memory fit (not 15), whatever the image is.
 fn record_fits(rec: Record, input: &[u8], registers: &[i32], cells: &[i32]) -> bool
     requires { ⌜ Fit (rec .parameters) ⌝ }
-    ensures { λ r. ⌜ ((image : List ℕ) → r ≡ recordFits (environmentOf (rec .parameters) image (now (input .entry))) (accountOf rec (now (registers .entry)) (now (cells .entry)))) ⌝ }
+    ensures { λ r. ⌜ ((image : List ℕ) → r ≡ recordFits (environmentOf (rec .parameters) image (now (input .entry))) (accountOf (asHeld rec (now (registers .entry)) (now (cells .entry))))) ⌝ }
 {
     if !numbers_fit(rec, input.len()) {
         return false;
@@ -130,7 +148,7 @@ pub fn grant_refusal(
     cells: &[i32],
 ) -> u32
     ensures { λ r. ⌜ ((slice : List ℤ) → r ≡ grantRefusal (environmentOf (rec .parameters) (now (image .entry)) (now (input .entry)))
-        (accountOf rec (now (registers .entry)) (now (cells .entry))) (record { cycles = cycles; slice = slice })) ⌝ }
+        (accountOf (asHeld rec (now (registers .entry)) (now (cells .entry)))) (asCall cycles slice)) ⌝ }
 {
     let p = rec.parameters;
     let refusal = start_refusal(p, image, registers, cells);

@@ -3,12 +3,13 @@ pub mod checks;
 
 ghost use mathlib.Core.Path.{_≡_};
 ghost use mathlib.Core.Bool.{true};
-ghost use mathlib.Core.List.{List, []};
+ghost use mathlib.Core.List.{[]};
 ghost use Prim.Native.Nat.{_≤_};
-ghost use lib.IntN.{ℤ, pos, _-ℤ_};
+ghost use lib.IntN.{pos, _-ℤ_};
 ghost use lib.Signed.{leZ};
-ghost use Rattle.model.specs.Calls.{zeroRecord, accountOf, recordOf};
-ghost use Rattle.operands.specs.Cores.{stateOf};
+ghost use Rattle.model.specs.Calls.{asHeld, asCall, asStarted, asGranted, zeroRecord, accountOf, recordOf};
+ghost use Rattle.model.specs.Step.{Memory, asMemory, environmentOf};
+ghost use Rattle.operands.specs.Cores.{stateIn};
 ghost use Rattle.machine.specs.Contracts.{StartIs, GrantIs};
 use crate::checks::grant_refusal;
 use crate::checks::start_refusal;
@@ -46,7 +47,8 @@ fn zero_record() -> Record
 
 // Start: the fresh record, with registers and data cells zeroed; or the number of the refusal, with a record of zeros.
 pub fn start(p: Parameters, image: &[u32], registers: &mut [i32], cells: &mut [i32]) -> StartReply
-    ensures { λ r. ⌜ StartIs p (now (image .entry)) (now (registers .entry)) (now (cells .entry)) r (now (registers .exit)) (now (cells .exit)) ⌝ }
+    ensures { λ r. ⌜ StartIs (environmentOf p (now (image .entry)) []) (asMemory (now (registers .entry)) (now (cells .entry)))
+        (asStarted r (now (registers .exit)) (now (cells .exit))) ⌝ }
 {
     let refusal = start_refusal(p, image, registers, cells);
     if refusal != 0 {
@@ -66,7 +68,7 @@ pub fn start(p: Parameters, image: &[u32], registers: &mut [i32], cells: &mut [i
 // Where the machine of a record stands.
 fn core_of(rec: Record) -> Core
     requires { ⌜ (leZ (pos (rec .parameters .b) -ℤ pos 1) (rec .shr) ≡ true) × (leZ (rec .shr) (pos (rec .parameters .s) -ℤ pos 1) ≡ true) × (rec .parameters .s ≤ 4096) ⌝ }
-    ensures { λ r. ⌜ ((registers cells : List ℤ) → stateOf r registers cells ≡ accountOf rec registers cells .state) ⌝ }
+    ensures { λ r. ⌜ ((m : Memory) → stateIn r m ≡ accountOf (record { rec = rec; memory = m }) .state) ⌝ }
 {
     Core {
         iar: rec.iar as usize,
@@ -79,7 +81,7 @@ fn core_of(rec: Record) -> Core
 // The record of where it stands.
 fn record_of(p: Parameters, at: Core, granted: u64, spent: u64) -> Record
     requires { ⌜ (at .iar ≤ 4096) × (at .top ≤ 4096) ⌝ }
-    ensures { λ r. ⌜ r ≡ recordOf p (record { state = stateOf at [] []; granted = granted; spent = spent }) ⌝ }
+    ensures { λ r. ⌜ ((m : Memory) → r ≡ recordOf p (record { state = stateIn at m; granted = granted; spent = spent })) ⌝ }
 {
     Record {
         parameters: p,
@@ -102,7 +104,9 @@ pub fn grant(
     cells: &mut [i32],
     out: &mut [i32],
 ) -> GrantReply
-    ensures { λ r. ⌜ GrantIs (now (image .entry)) (now (input .entry)) rec cycles (now (registers .entry)) (now (cells .entry)) (now (out .entry)) r (now (registers .exit)) (now (cells .exit)) (now (out .exit)) ⌝ }
+    ensures { λ r. ⌜ GrantIs (environmentOf (rec .parameters) (now (image .entry)) (now (input .entry)))
+        (asHeld rec (now (registers .entry)) (now (cells .entry))) (asCall cycles (now (out .entry)))
+        (asGranted r (now (registers .exit)) (now (cells .exit)) (now (out .exit))) ⌝ }
 {
     let refusal = grant_refusal(rec, image, input, cycles, registers, cells);
     if refusal != 0 {

@@ -8,9 +8,9 @@ use Rattle.model.specs.declared.Parameters.{Parameters}
 use Rattle.model.specs.Parameters.{refusalOf}
 use Rattle.model.specs.Machine.{Machine}
 use Rattle.model.specs.Grants.{Call, Reply, Account, Result, grant}
-use Rattle.model.specs.Step.{Environment, State, Tak}
-use Rattle.model.specs.Calls.{startChecks, started, Granted, granted, grantedBy, recordOf, grantRefusal}
-use Rattle.model.specs.Demand.{Held, heldAfterStart, gives, leaves, replyOf, joinedOutputs, IsAfter, Demand3}
+use Rattle.model.specs.Step.{Environment, Memory, State, Tak}
+use Rattle.model.specs.Calls.{Held, heldAfterStart, startChecks, started, Granted, granted, grantedBy, memoryOf, recordOf, grantRefusal}
+use Rattle.model.specs.Demand.{gives, leaves, replyOf, joinedOutputs, IsAfter, Demand3}
 use Rattle.model.proofs.Fits.{start-accepted}
 use Rattle.model.proofs.Costs.{priced}
 use Rattle.model.proofs.GrantKeeps.{started-accepted}
@@ -19,7 +19,7 @@ use Rattle.model.proofs.Lists as lists
 
 -- The record and the memory that an account stands for.
 abbrev pub heldOf : Parameters → Account State → Held
-heldOf p a = record { rec = recordOf p a; registers = a .state .registers; cells = a .state .cells }
+heldOf p a = record { rec = recordOf p a; memory = memoryOf (a .state) }
 
 joined-is : (p : Parameters) (xs : List (Result State)) → joinedOutputs (map (grantedBy p) xs) ≡ joined xs
 unfolding joinedOutputs joined
@@ -42,12 +42,12 @@ module _ (e : Environment) where
   check = grantRefusal e
 
   -- A list of grants over records and memory is one over accounts.
-  gives-is : (calls : List Call) (a : Account State) → gives (e .image) (e .input) (heldOf p a) calls ≡ map (grantedBy p) (results M check a calls)
+  gives-is : (calls : List Call) (a : Account State) → gives e (heldOf p a) calls ≡ map (grantedBy p) (results M check a calls)
   unfolding gives results granted
   gives-is [] a = refl
   gives-is (c ∷ cs) a = ap (λ (l : List Granted). grantedBy p (grant M check a c) ∷ l) (gives-is cs (grant M check a c .account))
 
-  leaves-is : (calls : List Call) (a : Account State) → leaves (e .image) (e .input) (heldOf p a) calls ≡ heldOf p (final M check a calls)
+  leaves-is : (calls : List Call) (a : Account State) → leaves e (heldOf p a) calls ≡ heldOf p (final M check a calls)
   unfolding leaves final granted
   leaves-is [] a = refl
   leaves-is (c ∷ cs) a = leaves-is cs (grant M check a c .account)
@@ -64,8 +64,8 @@ module _ (e : Environment) where
               ircr = s .ircr i;
               shr = s .shr i;
               place = s .place i;
-              registers = s .registers i;
-              cells = s .cells i;
+              registers = s .memory i .registers;
+              cells = s .memory i .cells;
             };
         outs = sym h ∙ s .outs;
         count = s .count;
@@ -79,8 +79,7 @@ module _ (e : Environment) where
         ircr = ap (λ (x : State). x .ircr) (s .state);
         shr = ap (λ (x : State). x .shr) (s .state);
         place = ap (λ (x : State). x .place) (s .state);
-        registers = ap (λ (x : State). x .registers) (s .state);
-        cells = ap (λ (x : State). x .cells) (s .state);
+        memory = ap memoryOf (s .state);
         outs = h ∙ s .outs;
         count = s .count;
       }
@@ -90,14 +89,14 @@ module _ (e : Environment) where
     abbrev res : List (Result State)
     res = results M check (start M) calls
 
-    outs-is : joinedOutputs (gives (e .image) (e .input) (heldOf p (start M)) calls) ≡ joined res
+    outs-is : joinedOutputs (gives e (heldOf p (start M)) calls) ≡ joined res
     outs-is = rw (gives-is calls (start M)) (joined-is p res)
 
-    replied-is : map replyOf (gives (e .image) (e .input) (heldOf p (start M)) calls) ≡ replies res
+    replied-is : map replyOf (gives e (heldOf p (start M)) calls) ≡ replies res
     replied-is = rw (gives-is calls (start M)) (replies-is p res)
 
     translate : lists.Demand3 M check calls →
-        Demand3 e calls (gives (e .image) (e .input) (heldOf p (start M)) calls) (leaves (e .image) (e .input) (heldOf p (start M)) calls)
+        Demand3 e calls (gives e (heldOf p (start M)) calls) (leaves e (heldOf p (start M)) calls)
     translate d =
         let held = leaves-is calls (start M) in
         record {
@@ -112,12 +111,10 @@ module _ (e : Environment) where
         }
 
 -- DEMAND 3. After an accepted start, with any input, for every list of grants.
-pub demand3 : (p : Parameters) (image input : List ℕ) (registers cells : List ℤ) (calls : List Call) →
-    refusalOf (startChecks p image registers cells) ≡ 0 →
-    let h = heldAfterStart (started p image registers cells) in
-    Demand3 (record { parameters = p; image = image; input = input }) calls (gives image input h calls) (leaves image input h calls)
+pub demand3 : (e : Environment) (m : Memory) (calls : List Call) → refusalOf (startChecks e m) ≡ 0 →
+    let h = heldAfterStart (started e m) in
+    Demand3 e calls (gives e h calls) (leaves e h calls)
 unfolding start
-demand3 p image input registers cells calls h =
-    let e : Environment = record { parameters = p; image = image; input = input } in
-    let fit = start-accepted p image registers cells h .fit in
-    rw (started-accepted e registers cells h) (translate e calls (lists.demand3 (Tak e) (grantRefusal e) (priced e fit) calls))
+demand3 e m calls h =
+    let fit = start-accepted e m h .fit in
+    rw (started-accepted e m h) (translate e calls (lists.demand3 (Tak e) (grantRefusal e) (priced e fit) calls))

@@ -2,22 +2,19 @@
 use Prim.Native.Nat.{ℕ, zero, suc, _+_, _-_}
 use mathlib.Core.Path.{_≡_, refl}
 use mathlib.Core.Bool.{Bool, true, false, not, _||_, cond}
-use mathlib.Core.List.{List, []}
+use mathlib.Core.List.{[]}
 use lib.Dec.{eqb, ltb}
-use lib.IntN.{ℤ}
 use lib.ListN.{length}
 use native.Mathlib.Omega.{arith}
 use borrow.Author.Tests.{ne-eqb}
 use Rattle.model.specs.declared.Ending.{Ending}
 use Rattle.model.specs.declared.Ending.the-variants.{Failed, Ended, Paused, OutputFull}
-use Rattle.model.specs.declared.Record.{Record}
-use Rattle.model.specs.Parameters.{Fit}
 use Rattle.model.specs.Numbers.{bytes}
 use Rattle.model.specs.Words.{isEmpty}
 use Rattle.model.specs.Machine.{Status, running, stops, look, lookAt}
 use Rattle.model.specs.Grants.{Call, Account, Standing, run, handBack, refuse, accept, grant}
-use Rattle.model.specs.Step.{Environment, State, Tak, currentCell, stateStatus, stepCost, stepValues, environmentOf}
-use Rattle.model.specs.Calls.{grantRefusal, accountOf, Granted, granted, endingWord, outcomeWord, stopWord}
+use Rattle.model.specs.Step.{Environment, State, Tak, currentCell, stateStatus, stepCost, stepValues}
+use Rattle.model.specs.Calls.{Held, grantRefusal, accountOf, environmentFor, Granted, granted, heldAfter, endingWord, outcomeWord, stopWord}
 use Rattle.model.proofs.Fits.{grant-accepted}
 use Rattle.model.proofs.Costs.{priced}
 use Rattle.model.proofs.Fuel.{run-looks}
@@ -42,31 +39,31 @@ stop-word e a room x h =
     look-word (eqb (s .ircr) 0) (eqb (s .iar) (e .parameters .t) || isEmpty (currentCell e s)) (ltb (a .granted - a .spent) (stepCost e s))
     (ltb room (length (stepValues e s))) x h
 
-module _ (image input : List ℕ) (r : Record) (registers cells : List ℤ) (c : Call) where
+module _ (lent : Environment) (held : Held) (c : Call) where
   abbrev e : Environment
-  e = environmentOf (r .parameters) image input
+  e = environmentFor lent held
 
   abbrev refusal : ℕ
-  refusal = grantRefusal e (accountOf r registers cells) c
+  refusal = grantRefusal e (accountOf held) c
 
   abbrev handed : Granted
-  handed = granted image input r registers cells c
+  handed = granted lent held c
 
   -- Worked out at the record and memory handed back and the room that is left; none for a refusal.
   pub grant-word : outcomeWord (handed .reply .outcome)
-      ≡ cond (eqb refusal 0) (stopWord e (accountOf (handed .reply .rec) (handed .registers) (handed .cells)) (length (c .slice) - handed .reply .values)) []
+      ≡ cond (eqb refusal 0) (stopWord e (accountOf (heldAfter handed)) (length (c .slice) - handed .reply .values)) []
   unfolding outcomeWord granted grant accept handBack refuse
   grant-word = go refusal refl
     where
       go : (k : ℕ) → refusal ≡ k →
           outcomeWord (handed .reply .outcome)
-          ≡ cond (eqb k 0) (stopWord e (accountOf (handed .reply .rec) (handed .registers) (handed .cells)) (length (c .slice) - handed .reply .values)) []
+          ≡ cond (eqb k 0) (stopWord e (accountOf (heldAfter handed)) (length (c .slice) - handed .reply .values)) []
       go zero h =
-          let fit = grant-accepted e (accountOf r registers cells) c h .start .fit in
-          let from : Standing State = record { state = accountOf r registers cells .state; spent = r .spent; written = [] } in
-          let t = run (Tak e) (r .granted + c .cycles) (length (c .slice)) from in
+          let fit = grant-accepted e (accountOf held) c h .start .fit in
+          let from : Standing State = record { state = accountOf held .state; spent = held .rec .spent; written = [] } in
+          let t = run (Tak e) (held .rec .granted + c .cycles) (length (c .slice)) from in
           rw (h, grant)
-          (stop-word e (record { state = t .at .state; granted = r .granted + c .cycles; spent = t .at .spent })
+          (stop-word e (record { state = t .at .state; granted = held .rec .granted + c .cycles; spent = t .at .spent })
           (length (c .slice) - length (t .at .written)) (t .ending)
-          (run-looks (Tak e) (priced e fit) (r .granted + c .cycles) (length (c .slice)) from))
+          (run-looks (Tak e) (priced e fit) (held .rec .granted + c .cycles) (length (c .slice)) from))
       go (suc k) h = rw (h, grant, ne-eqb (suc k) 0 (λ z. omega arith))

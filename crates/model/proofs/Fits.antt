@@ -1,22 +1,21 @@
 -- What passed checks say: of the parameters (1 to 5), of start and of grant. Assumes nothing.
 use Prim.Native.Nat.{ℕ, suc, _+_, _*_, _-_, _^_, _≤_}
 use mathlib.Core.Path.{_≡_, refl, sym, ap, _∙_}
-use mathlib.Core.Bool.{Bool, true, false, not, _&&_, cond, and-eq-true-iff}
+use mathlib.Core.Bool.{Bool, true, false, not, _&&_, cond, and-eq-true-iff, and-assoc}
 use mathlib.Core.List.{List, [], _∷_, _++_}
 use mathlib.Core.Logic.{_↔_}
 use native.Mathlib.Nat.{pow-succ'}
 use native.Mathlib.Omega.{arith}
 use lib.Dec.{eqb, leb}
-use lib.IntN.{ℤ}
 use lib.ListN.{length}
 use lib.Pow.{pow-mono}
 use borrow.Author.Tests.{leb-true, eqb-true, eq-eqb}
 use Rattle.model.specs.declared.Parameters.{Parameters}
-use Rattle.model.specs.Parameters.{Check, _unless_, refusalOf, between, limit, parameterChecks, Fit}
+use Rattle.model.specs.Parameters.{Check, _unless_, refusalOf, allPass, between, limit, parameterChecks, Fit}
 use Rattle.model.specs.Images.{imageFits}
 use Rattle.model.specs.Grants.{Account, Call}
-use Rattle.model.specs.Step.{Environment, State}
-use Rattle.model.specs.Calls.{sizeChecks, startChecks, recordFits, grantChecks, grantRefusal}
+use Rattle.model.specs.Step.{Environment, Memory, State}
+use Rattle.model.specs.Calls.{shapeChecks, memoryFits, memoryOf, sizeChecks, startChecks, recordFits, grantChecks, grantRefusal}
 
 -- Two tests that passed, and back.
 pub both : (a b : Bool) → (a && b) ≡ true → (a ≡ true) × (b ≡ true)
@@ -33,6 +32,24 @@ by-cond P false x y f g = g refl
 pub is-between : (low high x : ℕ) → between low high x ≡ true → (low ≤ x) × (x ≤ high)
 is-between low high x h = let k = both (leb low x) (leb x high) h in (leb-true low x (k .0), leb-true x high (k .1))
 
+-- A LIST OF TESTS, each of which passes.
+abbrev pub AllTrue : List Bool → Type 0
+AllTrue [] = Unit {0}
+AllTrue (b ∷ bs) = (b ≡ true) × AllTrue bs
+
+pub all-true : (bs : List Bool) → allPass bs ≡ true → AllTrue bs
+all-true [] h = tt
+all-true (b ∷ bs) h = let k = both b (allPass bs) h in (k .0, all-true bs (k .1))
+
+pub all-pass : (bs : List Bool) → AllTrue bs → allPass bs ≡ true
+all-pass [] t = refl
+all-pass (b ∷ bs) t = and-both (t .0) (all-pass bs (t .1))
+
+pub pass-append : (xs ys : List Bool) → allPass (xs ++ ys) ≡ (allPass xs && allPass ys)
+pass-append [] ys = refl
+pass-append (x ∷ xs) ys = rw (pass-append xs ys) (sym (and-assoc x (allPass xs) (allPass ys)))
+
+-- A LIST OF CHECKS
 -- No check has the number 0, which says that there is no refusal.
 abbrev pub Numbered : List Check → Type 0
 Numbered [] = Unit {0}
@@ -189,61 +206,82 @@ limit-double {k} h = sym (pow-succ' 2 (k - 1)) ∙ ap (λ (n : ℕ). 2 ^ n) e
     e = omega arith
 
 -- START
-pub record StartFits (p : Parameters) (image : List ℕ) (registers cells : List ℤ) : Type 0 where
-  pub fit : Fit p
-  pub image-length : length image ≡ 4 * p .t
-  pub register-count : length registers ≡ p .n
-  pub cell-count : length cells ≡ p .s
-  pub image-fits : imageFits p image ≡ true
+-- The lengths of the memory are the parameters'.
+pub record Sized (p : Parameters) (m : Memory) : Type 0 where
+  pub register-count : length (m .registers) ≡ p .n
+  pub cell-count : length (m .cells) ≡ p .s
 
-module _ (p : Parameters) (image : List ℕ) (registers cells : List ℤ) where
+pub record StartFits (e : Environment) (m : Memory) : Type 0 where
+  pub fit : Fit (e .parameters)
+  pub image-length : length (e .image) ≡ 4 * e .parameters .t
+  pub sized : Sized (e .parameters) m
+  pub image-fits : imageFits (e .parameters) (e .image) ≡ true
+
+module _ (p : Parameters) (image : List ℕ) where
+  pub shape-numbered : Numbered (shapeChecks p image)
+  shape-numbered = numbered-append (parameterChecks p) _ (parameters-numbered p) (omega arith)
+
+  pub shape-fit : AllFit (shapeChecks p image) → Fit p × (length image ≡ 4 * p .t)
+  shape-fit f =
+      let g = fit-right (parameterChecks p) _ f in
+      (no-refusal (parameterChecks p) (fit-left (parameterChecks p) _ f), eqb-true (length image) (4 * p .t) (g .0))
+
+pub memory-sized : (p : Parameters) (m : Memory) → memoryFits p m ≡ true → Sized p m
+memory-sized p m h =
+    let k = both (eqb (length (m .registers)) (p .n)) (eqb (length (m .cells)) (p .s)) h in
+    record { register-count = eqb-true (length (m .registers)) (p .n) (k .0); cell-count = eqb-true (length (m .cells)) (p .s) (k .1) }
+
+module _ (e : Environment) (m : Memory) where
+  abbrev p : Parameters
+  p = e .parameters
+
+  abbrev shape : List Check
+  shape = shapeChecks p (e .image)
+
   abbrev sizes : List Check
-  sizes = sizeChecks p image registers cells
+  sizes = sizeChecks e m
 
   pub sizes-numbered : Numbered sizes
-  sizes-numbered = numbered-append (parameterChecks p) _ (parameters-numbered p) (omega arith)
+  sizes-numbered = numbered-append shape _ (shape-numbered p (e .image)) (omega arith)
 
   -- 10 is not among them.
   pub sizes-lack : lacks 10 sizes ≡ true
   unfolding parameterChecks
   sizes-lack = refl
 
-  pub sizes-fit : AllFit sizes → Fit p × (length image ≡ 4 * p .t) × (length registers ≡ p .n) × (length cells ≡ p .s)
+  pub sizes-fit : AllFit sizes → Fit p × (length (e .image) ≡ 4 * p .t) × Sized p m
   sizes-fit f =
-      let g = fit-right (parameterChecks p) _ f in
-      let k = both (eqb (length registers) (p .n)) (eqb (length cells) (p .s)) (g .1 .0) in
-      let fit = no-refusal (parameterChecks p) (fit-left (parameterChecks p) _ f) in
-      (fit, eqb-true (length image) (4 * p .t) (g .0), eqb-true (length registers) (p .n) (k .0), eqb-true (length cells) (p .s) (k .1))
+      let s = shape-fit p (e .image) (fit-left shape _ f) in
+      (s .0, s .1, memory-sized p m (fit-right shape _ f .0))
 
-  pub start-numbered : Numbered (startChecks p image registers cells)
+  pub start-numbered : Numbered (startChecks e m)
   unfolding startChecks
   start-numbered = numbered-append sizes _ sizes-numbered (omega arith)
 
-  pub start-fit : AllFit (startChecks p image registers cells) → StartFits p image registers cells
+  pub start-fit : AllFit (startChecks e m) → StartFits e m
   unfolding startChecks
   start-fit f =
       let s = sizes-fit (fit-left sizes _ f) in
-      record { fit = s .0; image-length = s .1; register-count = s .2; cell-count = s .3; image-fits = fit-right sizes _ f .0 }
+      record { fit = s .0; image-length = s .1; sized = s .2; image-fits = fit-right sizes _ f .0 }
 
-  pub start-accepted : refusalOf (startChecks p image registers cells) ≡ 0 → StartFits p image registers cells
-  start-accepted h = start-fit (all-fit (startChecks p image registers cells) start-numbered h)
+  pub start-accepted : refusalOf (startChecks e m) ≡ 0 → StartFits e m
+  start-accepted h = start-fit (all-fit (startChecks e m) start-numbered h)
 
 -- GRANT
 pub record GrantFits (e : Environment) (a : Account State) (c : Call) : Type 0 where
-  pub start : StartFits (e .parameters) (e .image) (a .state .registers) (a .state .cells)
+  pub start : StartFits e (memoryOf (a .state))
   pub record-fits : recordFits e a ≡ true
   pub input-length : length (e .input) ≤ 65536
   pub cycles : c .cycles ≤ 1_000_000_000
   pub granted : a .granted + c .cycles ≤ 1_000_000_000_000_000
 
 abbrev ofStart : Environment → Account State → List Check
-ofStart e a = startChecks (e .parameters) (e .image) (a .state .registers) (a .state .cells)
+ofStart e a = startChecks e (memoryOf (a .state))
 
 module _ (e : Environment) (a : Account State) (c : Call) where
   pub grant-numbered : Numbered (grantChecks e a c)
   unfolding grantChecks
-  grant-numbered =
-      numbered-append (ofStart e a) _ (start-numbered (e .parameters) (e .image) (a .state .registers) (a .state .cells)) (omega arith)
+  grant-numbered = numbered-append (ofStart e a) _ (start-numbered e (memoryOf (a .state))) (omega arith)
 
   grant-fit : AllFit (grantChecks e a c) → GrantFits e a c
   unfolding grantChecks
@@ -251,7 +289,7 @@ module _ (e : Environment) (a : Account State) (c : Call) where
       let g = fit-right (ofStart e a) _ f in
       let k = both (leb (c .cycles) 1_000_000_000) (leb (a .granted + c .cycles) 1_000_000_000_000_000) (g .1 .1 .0) in
       record {
-        start = start-fit (e .parameters) (e .image) (a .state .registers) (a .state .cells) (fit-left (ofStart e a) _ f);
+        start = start-fit e (memoryOf (a .state)) (fit-left (ofStart e a) _ f);
         record-fits = g .0;
         input-length = leb-true (length (e .input)) 65536 (g .1 .0);
         cycles = leb-true (c .cycles) 1_000_000_000 (k .0);

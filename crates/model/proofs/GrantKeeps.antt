@@ -1,26 +1,24 @@
 -- An accepted grant leaves a record and memory that pass refusal 15 again, and so does an accepted start. Assumes nothing.
 use Prim.Native.Nat.{ℕ, zero, suc, _+_, _-_, _≤_}
-use mathlib.Core.Path.{_≡_, refl, sym, ap, _∙_}
-use mathlib.Core.Bool.{Bool, true, false, _&&_}
-use mathlib.Core.List.{List, [], _∷_}
+use mathlib.Core.Path.{_≡_, refl, ap, _∙_}
+use mathlib.Core.Bool.{Bool, true}
+use mathlib.Core.List.{List, [], _∷_, _++_}
 use native.Mathlib.Nat.{le-refl}
 use native.Mathlib.Omega.{arith}
-use lib.Dec.{leb, ltb}
-use lib.IntN.{ℤ, pos, _-ℤ_}
-use lib.ListN.{length, replicate}
-use lib.Signed.{leZ}
+use lib.Dec.{ltb}
+use lib.ListN.{length}
 use borrow.Author.Tests.{ltb-false, leb-true, le-leb}
 use Rattle.model.specs.Parameters.{Fit, refusalOf}
 use Rattle.model.specs.Machine.{Machine, running, Look, stops, goes, lookAt}
 use Rattle.model.specs.Grants.{Call, Account, Standing, handBack, refuse, advance, loop, run, accept, grant}
-use Rattle.model.specs.Step.{Environment, State, Tak, freshState}
-use Rattle.model.specs.Calls.{freshRecord, startChecks, Started, started, allInRange, recordFits, grantRefusal, accountOf}
-use Rattle.model.proofs.Fits.{and-both, GrantFits, start-accepted, grant-accepted}
+use Rattle.model.specs.Step.{Environment, Memory, State, Tak, freshState}
+use Rattle.model.specs.Calls.{freshRecord, startChecks, freshMemory, Started, started, heldAfterStart, recordTests, memoryTests, memoryOf, recordFits, grantRefusal, accountOf}
+use Rattle.model.proofs.Fits.{all-true, all-pass, Sized, GrantFits, start-accepted, grant-accepted}
 use Rattle.model.proofs.Laws.{look-goes}
 use Rattle.model.proofs.One.{loop-stops, loop-goes}
 use Rattle.model.proofs.Lists.{final}
 use Rattle.model.proofs.Lists as lists
-use Rattle.model.proofs.Keeps.{limitOf, Sound, step-keeps, fresh-sound}
+use Rattle.model.proofs.Keeps.{Sound, step-keeps, fresh-sound}
 
 -- THE LOOP, of any machine, with any P that its steps keep.
 module _ (M : Machine) where
@@ -57,19 +55,6 @@ module _ (M : Machine) where
     run-keeps a k = loop-keeps (suc (granted - a .spent)) a k
 
 -- THE RECORD
--- Nine tests that passed.
-all-nine : (a b c d e f g h i : Bool) → (a && b && c && d && e && f && g && h && i) ≡ true →
-    (a ≡ true) × (b ≡ true) × (c ≡ true) × (d ≡ true) × (e ≡ true) × (f ≡ true) × (g ≡ true) × (h ≡ true) × (i ≡ true)
-all-nine true true true true true true true true i q = (refl, refl, refl, refl, refl, refl, refl, refl, q)
-all-nine true true true true true true true false i q = (cc, cc, cc, cc, cc, cc, cc, cc, cc)
-all-nine true true true true true true false h i q = (cc, cc, cc, cc, cc, cc, cc, cc, cc)
-all-nine true true true true true false g h i q = (cc, cc, cc, cc, cc, cc, cc, cc, cc)
-all-nine true true true true false f g h i q = (cc, cc, cc, cc, cc, cc, cc, cc, cc)
-all-nine true true true false e f g h i q = (cc, cc, cc, cc, cc, cc, cc, cc, cc)
-all-nine true true false d e f g h i q = (cc, cc, cc, cc, cc, cc, cc, cc, cc)
-all-nine true false c d e f g h i q = (cc, cc, cc, cc, cc, cc, cc, cc, cc)
-all-nine false b c d e f g h i q = (cc, cc, cc, cc, cc, cc, cc, cc, cc)
-
 -- What 15 asks of a record and the memory, and the lengths of the memory.
 pub record AccountSound (e : Environment) (a : Account State) : Type 0 where
   pub state : Sound e (a .state)
@@ -77,46 +62,52 @@ pub record AccountSound (e : Environment) (a : Account State) : Type 0 where
   pub granted : a .granted ≤ 1_000_000_000_000_000
 
 module _ (e : Environment) (a : Account State) where
-  pub record-sound : recordFits e a ≡ true → length (a .state .registers) ≡ e .parameters .n → length (a .state .cells) ≡ e .parameters .s →
-      AccountSound e a
+  abbrev tests : List Bool
+  tests = recordTests (e .parameters) (length (e .input)) a ++ memoryTests (e .parameters) (memoryOf (a .state))
+
+  pub record-sound : recordFits e a ≡ true → Sized (e .parameters) (memoryOf (a .state)) → AccountSound e a
   unfolding recordFits
-  record-sound h r c =
-      let p = e .parameters in
-      let k =
-      all-nine (leb (a .state .iar) (p .t)) (leb (a .state .ircr) 3) (leZ (pos (p .b) -ℤ pos 1) (a .state .shr))
-      (leZ (a .state .shr) (pos (p .s) -ℤ pos 1)) (leb (a .spent) (a .granted)) (leb (a .granted) 1_000_000_000_000_000)
-      (leb (a .state .place) (length (e .input))) (allInRange (limitOf e) (a .state .registers))
-      (allInRange (limitOf e) (a .state .cells)) h in
+  record-sound h n =
+      let iar = all-true tests h in
+      let ircr = iar .1 in
+      let low = ircr .1 in
+      let high = low .1 in
+      let spent = high .1 in
+      let granted = spent .1 in
+      let place = granted .1 in
+      let registers = place .1 in
+      let cells = registers .1 in
       record {
         state = record {
-          iar = leb-true (a .state .iar) (p .t) (k .0);
-          ircr = leb-true (a .state .ircr) 3 (k .1);
-          low = k .2;
-          high = k .3;
-          place = leb-true (a .state .place) (length (e .input)) (k .6);
-          registers = k .7;
-          cells = k .8;
-          register-count = r;
-          cell-count = c;
+          iar = leb-true (a .state .iar) (e .parameters .t) (iar .0);
+          ircr = leb-true (a .state .ircr) 3 (ircr .0);
+          low = low .0;
+          high = high .0;
+          place = leb-true (a .state .place) (length (e .input)) (place .0);
+          registers = registers .0;
+          cells = cells .0;
+          register-count = n .register-count;
+          cell-count = n .cell-count;
         };
-        spent = leb-true (a .spent) (a .granted) (k .4);
-        granted = leb-true (a .granted) 1_000_000_000_000_000 (k .5);
+        spent = leb-true (a .spent) (a .granted) (spent .0);
+        granted = leb-true (a .granted) 1_000_000_000_000_000 (granted .0);
       }
 
   pub sound-record : AccountSound e a → recordFits e a ≡ true
   unfolding recordFits
   sound-record h =
       let s = h .state in
-      and-both (and-both (and-both (and-both (and-both (and-both (and-both (and-both
-      (le-leb (a .state .iar) (e .parameters .t) (s .iar)) (le-leb (a .state .ircr) 3 (s .ircr))) (s .low)) (s .high))
-      (le-leb (a .spent) (a .granted) (h .spent))) (le-leb (a .granted) 1_000_000_000_000_000 (h .granted)))
-      (le-leb (a .state .place) (length (e .input)) (s .place))) (s .registers)) (s .cells)
+      let iar = le-leb (a .state .iar) (e .parameters .t) (s .iar) in
+      let ircr = le-leb (a .state .ircr) 3 (s .ircr) in
+      let spent = le-leb (a .spent) (a .granted) (h .spent) in
+      let granted = le-leb (a .granted) 1_000_000_000_000_000 (h .granted) in
+      let place = le-leb (a .state .place) (length (e .input)) (s .place) in
+      all-pass tests (iar, (ircr, (s .low, (s .high, (spent, (granted, (place, (s .registers, (s .cells, tt)))))))))
 
 -- AN ACCEPTED GRANT: from account a to b.
 pub record GrantKept (e : Environment) (a : Account State) (c : Call) (b : Account State) : Type 0 where
   pub sound : AccountSound e b
-  pub register-count : length (b .state .registers) ≡ length (a .state .registers)
-  pub cell-count : length (b .state .cells) ≡ length (a .state .cells)
+  pub sized : Sized (e .parameters) (memoryOf (b .state))
   pub granted : b .granted ≡ a .granted + c .cycles
   pub rises : a .spent ≤ b .spent
 
@@ -124,15 +115,14 @@ module _ (e : Environment) (a : Account State) (c : Call) where
   accept-kept : GrantFits e a c → GrantKept e a c (accept (Tak e) a c .account)
   unfolding accept handBack
   accept-kept g =
-      let s = record-sound e a (g .record-fits) (g .start .register-count) (g .start .cell-count) in
+      let s = record-sound e a (g .record-fits) (g .start .sized) in
       let k =
       run-keeps (Tak e) (Sound e) (step-keeps e (g .start .fit) (g .start .image-fits)) (a .granted + c .cycles) (length (c .slice))
       (a .spent) (record { state = a .state; spent = a .spent; written = [] })
       (record { state = s .state; within = omega arith; rises = le-refl (a .spent) }) in
       record {
         sound = record { state = k .state; spent = k .within; granted = g .granted };
-        register-count = k .state .register-count ∙ sym (g .start .register-count);
-        cell-count = k .state .cell-count ∙ sym (g .start .cell-count);
+        sized = record { register-count = k .state .register-count; cell-count = k .state .cell-count };
         granted = refl;
         rises = k .rises;
       }
@@ -160,25 +150,18 @@ final-sound e a [] s = s
 final-sound e a (c ∷ cs) s = final-sound e (grant (Tak e) (grantRefusal e) a c .account) cs (grant-sound e a c s)
 
 -- AN ACCEPTED START
-abbrev pub heldBy : Started → Account State
-heldBy x = accountOf (x .reply .rec) (x .registers) (x .cells)
-
 module _ (e : Environment) where
   pub fresh-account : Fit (e .parameters) → AccountSound e (record { state = freshState (e .parameters); granted = 0; spent = 0 })
   fresh-account f = record { state = fresh-sound e f; spent = omega arith; granted = omega arith }
 
   -- What an accepted start hands back, and that it fits.
-  module _ (registers cells : List ℤ) (h : refusalOf (startChecks (e .parameters) (e .image) registers cells) ≡ 0) where
-    pub started-accepted : started (e .parameters) (e .image) registers cells
-        ≡ record {
-          reply = record { refusal = 0; rec = freshRecord (e .parameters) };
-          registers = replicate (e .parameters .n) (pos 0);
-          cells = replicate (e .parameters .s) (pos 0);
-        }
+  module _ (m : Memory) (h : refusalOf (startChecks e m) ≡ 0) where
+    pub started-accepted : started e m
+        ≡ record { reply = record { refusal = 0; rec = freshRecord (e .parameters) }; memory = freshMemory (e .parameters) }
     unfolding started
     started-accepted = rw (h, started)
 
-    pub started-fits : recordFits e (heldBy (started (e .parameters) (e .image) registers cells)) ≡ true
+    pub started-fits : recordFits e (accountOf (heldAfterStart (started e m))) ≡ true
     started-fits =
-        let f = start-accepted (e .parameters) (e .image) registers cells h .fit in
-        ap (λ (x : Started). recordFits e (heldBy x)) started-accepted ∙ sound-record e _ (fresh-account f)
+        ap (λ (x : Started). recordFits e (accountOf (heldAfterStart x))) started-accepted
+        ∙ sound-record e _ (fresh-account (start-accepted e m h .fit))

@@ -22,11 +22,11 @@ use Rattle.model.specs.Images.{wordFits, wordsFit, cellFits, allZero, ce
 use Rattle.model.specs.Machine.{look, lookAt}
 use Rattle.model.specs.Grants.{Call, handBack, refuse, advance, loop, run, accept, grant}
 use Rattle.model.specs.Step.{Environment, environmentOf, freshState, registerValue, valueOf, store, jumpTo, push, pop, blanksOf, tokenOf, input, execute, stateStatus, stepCost, stepValues, step}
-use Rattle.model.specs.Calls.{Granted, granted, started, startChecks, recordFits, grantChecks, grantRefusal, endingWord}
+use Rattle.model.specs.Calls.{Held, heldAfterStart, Granted, granted, freshMemory, started, startChecks, recordFits, grantChecks, grantRefusal, endingWord}
 use Rattle.model.specs.Lines.{valueLines}
 use Rattle.model.specs.Settings.{fieldsFrom, setting, allSettings}
 use Rattle.model.specs.Program.{grantLines, printed}
-use Rattle.model.specs.Demand.{Held, heldAfterStart, gives, leaves, joinedOutputs}
+use Rattle.model.specs.Demand.{gives, leaves, joinedOutputs}
 
 abbrev p : Parameters
 p = record { k = 8; n = 2; s = 4; b = 2; t = 6 }
@@ -57,14 +57,15 @@ loads text = reply (loadReply p (bytes text) (replicate 24 7))
 calls : List ℕ → List Call
 calls gs = map (λ g. record { cycles = g; slice = pos 9 ∷ pos 9 ∷ [] }) gs
 
-zeros : ℕ → List ℤ
-zeros n = replicate n (pos 0)
+-- What the text's image is started and granted in, with an empty input.
+lent : List ℕ → Environment
+lent image = environmentOf p image []
 
 from : String → Held
-from text = heldAfterStart (started p (imageOf p (bytes text)) (zeros 2) (zeros 4))
+from text = heldAfterStart (started (lent (imageOf p (bytes text))) (freshMemory p))
 
 answers : String → List ℕ → List Granted
-answers text gs = gives (imageOf p (bytes text)) [] (from text) (calls gs)
+answers text gs = gives (lent (imageOf p (bytes text))) (from text) (calls gs)
 
 -- Ending, values written and cycles spent of each grant.
 spends : String → List ℕ → List (List ℕ)
@@ -75,25 +76,25 @@ prints text gs = joinedOutputs (answers text gs)
 
 -- After one grant: IRCR, IAR and spent; the registers; SHR and the data cells.
 left : String → Held
-left text = leaves (imageOf p (bytes text)) [] (from text) (calls (1_000_000_000 ∷ []))
+left text = leaves (lent (imageOf p (bytes text))) (from text) (calls (1_000_000_000 ∷ []))
 
 ends : String → List ℕ
 ends text = left text .rec .ircr ∷ left text .rec .iar ∷ left text .rec .spent ∷ []
 
 registers : String → List ℤ
-registers text = left text .registers
+registers text = left text .memory .registers
 
 stack : String → List ℤ
-stack text = left text .rec .shr ∷ left text .cells
+stack text = left text .rec .shr ∷ left text .memory .cells
 
 -- The number of a start with this image.
 starts : List ℕ → List ℕ
-starts image = refusalOf (startChecks p image (zeros 2) (zeros 4)) ∷ []
+starts image = refusalOf (startChecks (lent image) (freshMemory p)) ∷ []
 
 -- A cell with this head and a register: its row's name and forms; its cost and how many values it writes.
 headed : ℕ → List (List ℕ)
 headed n =
-    let e : Environment = environmentOf p (n ∷ 0x40000000 ∷ replicate 22 0) [] in
+    let e = lent (n ∷ 0x40000000 ∷ replicate 22 0) in
     rowOf n .name ∷ rowOf n .forms ∷ (stepCost e (freshState p) ∷ length (stepValues e (freshState p)) ∷ []) ∷ []
 
 -- Something computed and what document 01 says of it.
@@ -140,7 +141,7 @@ marks =
     ∷ []
 
 pub marked-runs : map computed marks ≡ map said marks
-unfolding firstCell reply loads calls zeros from answers spends prints left ends registers stack computed marks said parameterChecks digitsFrom checked divide remainder negation logic bitsOf signedOf bitwise shiftLeft shiftRight shiftRightSigned rowOf directs costOf linesFrom wordsFrom sameWord lookupFrom names specialOf plain argument allows isWithin argumentsFrom lineCell linesReply linesWords textReply imageOf loadChecks loadReply wordFits wordsFit cellFits allZero cellsFit look lookAt handBack refuse advance loop run accept grant registerValue valueOf store jumpTo push pop blanksOf tokenOf input execute stateStatus stepCost stepValues step granted started startChecks recordFits grantChecks grantRefusal gives leaves joinedOutputs digitsOf endingWord valueLines fieldsFrom setting allSettings grantLines printed
+unfolding firstCell reply loads calls lent from answers spends prints left ends registers stack computed marks said parameterChecks digitsFrom checked divide remainder negation logic bitsOf signedOf bitwise shiftLeft shiftRight shiftRightSigned rowOf directs costOf linesFrom wordsFrom sameWord lookupFrom names specialOf plain argument allows isWithin argumentsFrom lineCell linesReply linesWords textReply imageOf loadChecks loadReply wordFits wordsFit cellFits allZero cellsFit look lookAt handBack refuse advance loop run accept grant registerValue valueOf store jumpTo push pop blanksOf tokenOf input execute stateStatus stepCost stepValues step granted started startChecks recordFits grantChecks grantRefusal gives leaves joinedOutputs digitsOf endingWord valueLines fieldsFrom setting allSettings grantLines printed
 marked-runs = refl
 
 -- Points that the papers leave open, as docs/DECISIONS.md decides them.
@@ -185,5 +186,5 @@ decisions =
     ∷ []
 
 pub decided-points : map computed decisions ≡ map said decisions
-unfolding firstCell reply loads calls zeros from answers spends prints left ends registers stack computed decisions said starts headed parameterChecks digitsFrom checked divide remainder negation logic bitsOf signedOf bitwise shiftLeft shiftRight shiftRightSigned rowOf directs costOf linesFrom wordsFrom sameWord lookupFrom names specialOf plain argument allows isWithin argumentsFrom lineCell linesReply linesWords textReply imageOf loadChecks loadReply wordFits wordsFit cellFits allZero cellsFit look lookAt handBack refuse advance loop run accept grant registerValue valueOf store jumpTo push pop blanksOf tokenOf input execute stateStatus stepCost stepValues step granted started startChecks recordFits grantChecks grantRefusal gives leaves joinedOutputs
+unfolding firstCell reply loads calls lent from answers spends prints left ends registers stack computed decisions said starts headed parameterChecks digitsFrom checked divide remainder negation logic bitsOf signedOf bitwise shiftLeft shiftRight shiftRightSigned rowOf directs costOf linesFrom wordsFrom sameWord lookupFrom names specialOf plain argument allows isWithin argumentsFrom lineCell linesReply linesWords textReply imageOf loadChecks loadReply wordFits wordsFit cellFits allZero cellsFit look lookAt handBack refuse advance loop run accept grant registerValue valueOf store jumpTo push pop blanksOf tokenOf input execute stateStatus stepCost stepValues step granted started startChecks recordFits grantChecks grantRefusal gives leaves joinedOutputs
 decided-points = refl

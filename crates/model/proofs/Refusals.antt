@@ -6,13 +6,13 @@ use lib.IntN.{ℤ}
 use lib.ListN.{length}
 use borrow.Author.Tests.{lt-ltb}
 use Rattle.model.specs.declared.Parameters.{Parameters}
-use Rattle.model.specs.declared.Record.{Record}
 use Rattle.model.specs.declared.LoadReply.the-variants as load
 use Rattle.model.specs.declared.Outcome.the-variants.{Refused}
 use Rattle.model.specs.Parameters.{refusalOf}
 use Rattle.model.specs.Load.{loadChecks, loadReply, imageAfter}
 use Rattle.model.specs.Grants.{Call, handBack, refuse, accept, grant}
-use Rattle.model.specs.Calls.{startChecks, started, zeroRecord, grantRefusal, accountOf, granted, outcomeNumber, spelled}
+use Rattle.model.specs.Step.{Environment, Memory}
+use Rattle.model.specs.Calls.{Held, startChecks, started, zeroRecord, grantRefusal, accountOf, environmentFor, granted, outcomeNumber, spelled}
 
 pub load-refused : (p : Parameters) (text old : List ℕ) (k i : ℕ) → loadReply p text old ≡ load.Refused k i →
     imageAfter p text old (loadReply p text old) ≡ old
@@ -24,44 +24,41 @@ pub load-refused-first : (p : Parameters) (text old : List ℕ) (k : ℕ) → re
 unfolding loadReply
 load-refused-first p text old k h = rw (h, loadReply)
 
-pub start-refused : (p : Parameters) (image : List ℕ) (registers cells : List ℤ) (k : ℕ) →
-    refusalOf (startChecks p image registers cells) ≡ suc k →
-    started p image registers cells
-    ≡ record { reply = record { refusal = suc k; rec = zeroRecord }; registers = registers; cells = cells }
-unfolding started
-start-refused p image registers cells k h = rw (h, started)
+module _ (e : Environment) (m : Memory) where
+  pub start-refused : (k : ℕ) → refusalOf (startChecks e m) ≡ suc k →
+      started e m ≡ record { reply = record { refusal = suc k; rec = zeroRecord }; memory = m }
+  unfolding started
+  start-refused k h = rw (h, started)
 
--- Start's number is that of its checks.
-pub start-number : (p : Parameters) (image : List ℕ) (registers cells : List ℤ) →
-    started p image registers cells .reply .refusal ≡ refusalOf (startChecks p image registers cells)
-unfolding started
-start-number p image registers cells = go (refusalOf (startChecks p image registers cells)) refl
-  where
-    go : (k : ℕ) → refusalOf (startChecks p image registers cells) ≡ k → started p image registers cells .reply .refusal ≡ k
-    go zero h = rw (h, started)
-    go (suc k) h = rw (h, started)
+  -- Start's number is that of its checks.
+  pub start-number : started e m .reply .refusal ≡ refusalOf (startChecks e m)
+  unfolding started
+  start-number = go (refusalOf (startChecks e m)) refl
+    where
+      go : (k : ℕ) → refusalOf (startChecks e m) ≡ k → started e m .reply .refusal ≡ k
+      go zero h = rw (h, started)
+      go (suc k) h = rw (h, started)
 
-module _ (image input : List ℕ) (r : Record) (registers cells : List ℤ) (c : Call) where
+module _ (e : Environment) (held : Held) (c : Call) where
   abbrev refusal : ℕ
-  refusal = grantRefusal (record { parameters = r .parameters; image = image; input = input }) (accountOf r registers cells) c
+  refusal = grantRefusal (environmentFor e held) (accountOf held) c
 
   pub grant-refused : (k : ℕ) → refusal ≡ suc k →
-      granted image input r registers cells c
+      granted e held c
       ≡ record {
-        reply = record { outcome = Refused (suc k); rec = r; values = 0; cycles = 0 };
-        registers = registers;
-        cells = cells;
+        reply = record { outcome = Refused (suc k); rec = held .rec; values = 0; cycles = 0 };
+        memory = held .memory;
         slice = c .slice;
       }
   unfolding granted grant refuse
   grant-refused k h = rw (h, grant)
 
   -- Grant's number is that of its checks, 0 where it is accepted.
-  pub grant-number : outcomeNumber (granted image input r registers cells c .reply .outcome) ≡ refusal
+  pub grant-number : outcomeNumber (granted e held c .reply .outcome) ≡ refusal
   unfolding outcomeNumber granted grant accept handBack refuse
   grant-number = go refusal refl
     where
-      go : (k : ℕ) → refusal ≡ k → outcomeNumber (granted image input r registers cells c .reply .outcome) ≡ k
+      go : (k : ℕ) → refusal ≡ k → outcomeNumber (granted e held c .reply .outcome) ≡ k
       go zero h = rw (h, grant)
       go (suc k) h = rw (h, grant)
 

@@ -5,38 +5,21 @@ use mathlib.Core.List.{List, [], _∷_, _++_, map}
 use mathlib.Core.Option.{none, some}
 use lib.IntN.{ℤ}
 use lib.ListN.{take}
-use Rattle.model.specs.declared.Record.{Record}
 use Rattle.model.specs.declared.Ending.the-variants.{OutputFull}
 use Rattle.model.specs.Machine.{after, outputs, costs, Reaches, Largest}
 use Rattle.model.specs.Grants.{Call, Reply, lastEnding, total, Works}
 use Rattle.model.specs.Step.{Environment, Tak}
-use Rattle.model.specs.Calls.{Started, Granted, granted, grantRefusal}
-
--- What a call leaves for the next one: the record and the memory ("the registers and the data cells").
-pub record Held : Type 0 where
-  pub rec : Record
-  pub registers : List ℤ
-  pub cells : List ℤ
-
--- "the record and memory that an accepted start with the list's image left"
-abbrev pub heldAfterStart : Started → Held
-heldAfterStart x = record { rec = x .reply .rec; registers = x .registers; cells = x .cells }
-
--- "the record and memory that the one before it left"
-abbrev pub heldAfter : Granted → Held
-heldAfter x = record { rec = x .reply .rec; registers = x .registers; cells = x .cells }
+use Rattle.model.specs.Calls.{Held, heldAfter, Granted, granted, memoryOf, grantRefusal}
 
 -- What each grant of a list gives, by the definition. "Image and input are the same throughout."
-unfoldable pub gives : (image input : List ℕ) → Held → List Call → List Granted
-gives image input h [] = []
-gives image input h (c ∷ cs) =
-    let x = granted image input (h .rec) (h .registers) (h .cells) c in
-    x ∷ gives image input (heldAfter x) cs
+unfoldable pub gives : Environment → Held → List Call → List Granted
+gives e h [] = []
+gives e h (c ∷ cs) = let x = granted e h c in x ∷ gives e (heldAfter x) cs
 
 -- What the list leaves.
-unfoldable pub leaves : (image input : List ℕ) → Held → List Call → Held
-leaves image input h [] = h
-leaves image input h (c ∷ cs) = leaves image input (heldAfter (granted image input (h .rec) (h .registers) (h .cells) c)) cs
+unfoldable pub leaves : Environment → Held → List Call → Held
+leaves e h [] = h
+leaves e h (c ∷ cs) = leaves e (heldAfter (granted e h c)) cs
 
 -- "the refusal or ending, the number of values and the cycles"
 abbrev pub replyOf : Granted → Reply
@@ -56,8 +39,7 @@ module _ (e : Environment) where
     pub ircr : h .rec .ircr ≡ (after (Tak e) m) .ircr
     pub shr : h .rec .shr ≡ (after (Tak e) m) .shr
     pub place : h .rec .place ≡ (after (Tak e) m) .place
-    pub registers : h .registers ≡ (after (Tak e) m) .registers
-    pub cells : h .cells ≡ (after (Tak e) m) .cells
+    pub memory : h .memory ≡ memoryOf (after (Tak e) m)
     pub outs : joined ≡ outputs (Tak e) m
     pub count : h .rec .spent ≡ costs (Tak e) m
 

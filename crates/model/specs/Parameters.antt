@@ -23,6 +23,11 @@ abbrev pub refusalOf : List Check → ℕ
 refusalOf [] = 0
 refusalOf (c ∷ cs) = cond (c .fit) (refusalOf cs) (c .number)
 
+-- Every test of a list passes.
+abbrev pub allPass : List Bool → Bool
+allPass [] = true
+allPass (b ∷ bs) = b && allPass bs
+
 -- x is low..high, both included.
 abbrev pub between : (low high x : ℕ) → Bool
 between low high x = leb low x && leb x high

@@ -3,9 +3,8 @@
 use Prim.Native.Nat.{ℕ, zero, suc, _*_}
 use mathlib.Core.Bool.{Bool, true, false}
 use mathlib.Core.List.{List, [], _++_}
-use lib.IntN.{ℤ, pos}
+use lib.IntN.{pos}
 use lib.ListN.{take, replicate}
-use Rattle.model.specs.declared.Parameters.{Parameters}
 use Rattle.model.specs.declared.Record.{Record}
 use Rattle.model.specs.declared.Ending.{Ending}
 use Rattle.model.specs.declared.Ending.the-variants.{Failed, Ended, Paused, OutputFull}
@@ -14,7 +13,8 @@ use Rattle.model.specs.declared.Outcome.the-variants.{Refused, Stopped}
 use Rattle.model.specs.declared.LoadReply.the-variants as load
 use Rattle.model.specs.Load.{loadReply, imageOf}
 use Rattle.model.specs.Grants.{Call}
-use Rattle.model.specs.Calls.{Started, started, Granted, granted}
+use Rattle.model.specs.Step.{Environment, environmentOf}
+use Rattle.model.specs.Calls.{Held, Started, freshMemory, started, heldAfterStart, Granted, granted, heldAfter}
 use Rattle.model.specs.Lines.{valueLines, endingLine, refusalLine}
 use Rattle.model.specs.Settings.{settings}
 
@@ -47,18 +47,17 @@ abbrev pub sliceCall : (cycles : ℕ) → Call
 sliceCall cycles = record { cycles = cycles; slice = replicate 4096 (pos 0) }
 
 -- "grants .. then 0 after each full output": the lines from a grant of `cycles` on, over at most `grants` of them.
-unfoldable pub grantLines : (image input : List ℕ) (grants cycles : ℕ) → Record → (registers cells : List ℤ) → List ℕ
-grantLines image input zero cycles r registers cells = []
-grantLines image input (suc n) cycles r registers cells =
-    let x = granted image input r registers cells (sliceCall cycles) in
-    replyLines x
-    ++ elim (isFull (x .reply .outcome)) [ true ↦ grantLines image input n 0 (x .reply .rec) (x .registers) (x .cells) | false ↦ [] ]
+unfoldable pub grantLines : Environment → (grants cycles : ℕ) → Held → List ℕ
+grantLines e zero cycles h = []
+grantLines e (suc n) cycles h =
+    let x = granted e h (sliceCall cycles) in
+    replyLines x ++ elim (isFull (x .reply .outcome)) [ true ↦ grantLines e n 0 (heldAfter x) | false ↦ [] ]
 
 -- "grants 10^9 once": a full output has spent at least one of these cycles, so that 10^9 + 1 grants are never used up.
-abbrev pub startLines : (image input : List ℕ) → Started → List ℕ
-startLines image input s =
+abbrev pub startLines : Environment → Started → List ℕ
+startLines e s =
     elim (s .reply .refusal) [
-      | zero ↦ grantLines image input 1_000_000_001 1_000_000_000 (s .reply .rec) (s .registers) (s .cells)
+      | zero ↦ grantLines e 1_000_000_001 1_000_000_000 (heldAfterStart s)
       | suc k ↦ refusalLine (suc k) 0
     ]
 
@@ -66,7 +65,8 @@ startLines image input s =
 unfoldable pub printed : (par text input : List ℕ) → List ℕ
 printed par text input =
     let p = settings par in
+    let e = environmentOf p (imageOf p text) input in
     elim (loadReply p text (replicate (4 * p .t) 0)) [
-      | load.Accepted n ↦ startLines (imageOf p text) input (started p (imageOf p text) (replicate (p .n) (pos 0)) (replicate (p .s) (pos 0)))
+      | load.Accepted n ↦ startLines e (started e (freshMemory p))
       | load.Refused k i ↦ refusalLine k i
     ]

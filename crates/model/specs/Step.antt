@@ -24,6 +24,18 @@ pub record Environment : Type 0 where
 abbrev pub environmentOf : Parameters → (image input : List ℕ) → Environment
 environmentOf p image input = record { parameters = p; image = image; input = input }
 
+-- The same image and input under other parameters.
+abbrev pub withParameters : Parameters → Environment → Environment
+withParameters p e = environmentOf p (e .image) (e .input)
+
+-- "Memory means the registers and the data cells."
+pub record Memory : Type 0 where
+  pub registers : List ℤ
+  pub cells : List ℤ
+
+abbrev pub asMemory : (registers cells : List ℤ) → Memory
+asMemory registers cells = record { registers = registers; cells = cells }
+
 -- "The machine of demand 3 has IAR, IRCR, SHR, input place, registers, data"; the values output so far are its run's. `cells` are the data cells.
 pub record State : Type 0 where
   pub iar : ℕ

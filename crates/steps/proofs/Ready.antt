@@ -14,7 +14,7 @@ use Rattle.model.proofs.Ranges.{WritesRange, row-range}
 use Rattle.model.specs.Images.{cellFits}
 use Rattle.model.specs.Instructions.{Operation, clearRegisters, clearCells, dumpRegisters, dumpCells, inputs, outputs, pushes, pops, skips, idles, writes, jumps, jumpsOn, rowOf}
 use Rattle.model.specs.Parameters.{limit, between}
-use Rattle.model.specs.Step.{State, environmentOf, valueOf, execute, settled}
+use Rattle.model.specs.Step.{asMemory, State, environmentOf, valueOf, execute, settled}
 use Rattle.model.specs.declared.Parameters.{Parameters}
 use Rattle.effects.specs.Effects.{Indexed, outputAfter}
 use Rattle.image.proofs.FitLaws.{is-limit}
@@ -31,7 +31,7 @@ use Rattle.steps.proofs.Targets.{names-target}
 use Rattle.steps.proofs.Tops.{top-between}
 
 module _ {i : Instruction} {p : Parameters} {m : ℕ} {at : Core} {input : List ℕ} {registers cells : List ℤ} {room : ℕ}
-    (h : Steppable i p m at input registers cells room) where
+    (h : Steppable (environmentOf p [] input) m i at (asMemory registers cells) room) where
   abbrev s : State
   s = stateOf at registers cells
 
@@ -118,7 +118,7 @@ module _ {i : Instruction} {p : Parameters} {m : ℕ} {at : Core} {input : List 
     chosen : plan ≡ planOf p input at registers cells (rowOf (i .number) .operation) (cellFrom i) (valueOf s (i .first)) (valueOf s (i .second))
     chosen = rw (e, f) at g
 
-    pub values-are : valuesOf (plan .to) (plan .value) registers cells ≡ written i at registers cells
+    pub values-are : valuesOf (plan .to) (plan .value) registers cells ≡ written i at (asMemory registers cells)
     values-are = rw chosen (plan-values (environmentOf p [] input) at registers cells (rowOf (i .number) .operation) (cellFrom i) (steady []))
 
     pub room-enough : length (valuesOf (plan .to) (plan .value) registers cells) ≤ room
@@ -146,7 +146,7 @@ module _ {i : Instruction} {p : Parameters} {m : ℕ} {at : Core} {input : List 
       failed image =
           (rw (ne-eqb (plan .next .ircr) 0 n) at planned-is image)
 
-      pub output-left : (out : List ℤ) → out ≡ outputAfter (written i at registers cells) out
+      pub output-left : (out : List ℤ) → out ≡ outputAfter (written i at (asMemory registers cells)) out
       output-left out =
           ap (λ (l : List ℤ). outputAfter l out)
           (plan-silent (environmentOf p [] input) at registers cells (rowOf (i .number) .operation) (cellFrom i)

@@ -1,16 +1,10 @@
 // The step.
 pub mod planner;
 
-ghost use mathlib.Core.Path.{_≡_};
-ghost use mathlib.Core.List.{List};
-ghost use Prim.Native.Nat.{ℕ};
+ghost use mathlib.Core.List.{[]};
 ghost use lib.ListN.{length};
-ghost use Rattle.model.specs.Instructions.{rowOf};
-ghost use Rattle.model.specs.Step.{environmentOf, execute, settled};
-ghost use Rattle.image.specs.Decode.{cellFrom};
-ghost use Rattle.operands.specs.Cores.{stateOf};
-ghost use Rattle.effects.specs.Effects.{outputAfter};
-ghost use Rattle.steps.specs.Steppable.{written, Steppable};
+ghost use Rattle.model.specs.Step.{asMemory, environmentOf};
+ghost use Rattle.steps.specs.Steppable.{Steppable, StepIs};
 use crate::planner::choose;
 use effects::apply;
 use image::decode::Instruction;
@@ -29,9 +23,9 @@ pub fn step(
     cells: &mut [i32],
     out: &mut [i32],
 ) -> Core
-    requires { ⌜ Steppable i p m at (now input) (now registers) (now cells) (length (now out)) ⌝ }
-    ensures { λ r. ⌜ ((image : List ℕ) → stateOf r (now (registers .exit)) (now (cells .exit)) ≡ settled (stateOf at (now (registers .entry)) (now (cells .entry))) (execute (environmentOf p image (now (input .entry))) (rowOf (i .number) .operation) (cellFrom i) (stateOf at (now (registers .entry)) (now (cells .entry))))) ⌝ }
-    ensures output { λ r. ⌜ now (out .exit) ≡ outputAfter (written i at (now (registers .entry)) (now (cells .entry))) (now (out .entry)) ⌝ }
+    requires { ⌜ Steppable (environmentOf p [] (now input)) m i at (asMemory (now registers) (now cells)) (length (now out)) ⌝ }
+    ensures { λ r. ⌜ StepIs (environmentOf p [] (now (input .entry))) i at (asMemory (now (registers .entry)) (now (cells .entry))) (now (out .entry))
+        r (asMemory (now (registers .exit)) (now (cells .exit))) (now (out .exit)) ⌝ }
 {
     let x = read(i.first, at, registers, cells);
     let y = read(i.second, at, registers, cells);

@@ -5,7 +5,7 @@ use native.Mathlib.Nat.{le-refl}
 use native.Mathlib.Omega.{arith}
 use lib.ListN.{length}
 use borrow.Author.Needs.{needs}
-use Rattle.model.specs.Step.{environmentOf}
+use Rattle.model.specs.Step.{asMemory, environmentOf}
 use Rattle.engine.specs.declared.looks.Found.the-variants.{Runs}
 use Rattle.engine.specs.Runs.{Runnable}
 use Rattle.engine.proofs.RunLaws.{found, Going-on, begins, stopped, cost-paid, cost-some, room-for, steppable, goes-on}
@@ -14,8 +14,8 @@ use Rattle.engine.proofs.run.Tie as tie
 
 abbrev Inv-loop : tie.InvT-loop
 Inv-loop p m image prices input before granted registers₀ cells₀ out₀ at₀ spent₀ count₀ registers cells out at spent count =
-    Runnable (environmentOf p image input) m prices at₀ spent₀ granted registers₀ cells₀
-    × Going-on (environmentOf p image input) at₀ spent₀ granted registers₀ cells₀ out₀ at spent count registers cells out
+    Runnable (environmentOf p image input) m prices at₀ spent₀ granted (asMemory registers₀ cells₀)
+    × Going-on (environmentOf p image input) at₀ spent₀ granted (asMemory registers₀ cells₀) out₀ at spent count (asMemory registers cells) out
 
 abbrev μ-loop : tie.MeasureT-loop
 μ-loop p m image prices input before granted registers₀ cells₀ out₀ at₀ spent₀ count₀ registers cells out at spent count =
@@ -34,7 +34,7 @@ runs : (c : tie.After-found2 Inv-loop μ-loop) → Runs (c .found2 .given .0 .0)
 runs c = sym (c .found2 .given .1) ∙ the-look (c .before .before)
 
 loop-holds : tie.Need-loop-holds Inv-loop μ-loop
-loop-holds c = let h = c .before .before .before .pre in (h, begins _ _ _ _ _ _ _ (h .paid) (h .sound))
+loop-holds c = let h = c .before .before .before .pre in (h, begins _ _ _ _ _ _ (h .paid) (h .sound))
 
 sub-look : tie.Need-sub-look Inv-loop μ-loop
 sub-look c = c .loop .inv .1 .paid
@@ -83,7 +83,7 @@ loop-again c =
     let found = c .before .before .before .before .before .before .before .before .before .before in
     let at = found .before .before .before .loop .inv in
     let stepped = c .before .before .before in
-    (at .0, goes-on (at .0) (at .1) (runs found) _ (stepped .step .ensures .0 _) (stepped .step .ensures .1) refl)
+    (at .0, goes-on (at .0) (at .1) (runs found) _ (stepped .step .ensures .state _) (stepped .step .ensures .output) refl)
 
 mul-step : tie.Need-mul-step Inv-loop μ-loop
 mul-step c = let i = c .before .before .before .before .before .before .before .before .loop .inv .1 in record { fits = omega (arith, i .within, i .long, long-enough (c .before .before .before .before .before .before .before .before .before .before .before .before)) }

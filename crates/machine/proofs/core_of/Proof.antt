@@ -36,7 +36,7 @@ cast-t4 : tie.Need-cast-t4
 cast-t4 c = let s = c .before .before .before in rw (sum s) (tt, record { fits = omega (arith, up s .high, s .pre .2) })
 
 returns : tie.Need-returns
-returns c = λ registers cells. let s = c .before .before .before in rw (sum s, up s .back)
+returns c = λ m. let s = c .before .before .before in rw (sum s, up s .back)
 
 pub core-of-spec : {M : Type 1} → statement M
 core-of-spec = tie.close (tie.spec cast-t2 add-t3 cast-t4 returns)

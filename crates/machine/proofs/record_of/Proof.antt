@@ -22,7 +22,7 @@ returns : tie.Need-returns
 returns c =
     let s = c .before .before in
     let f : SFits w64 (pos (s .args .at .top) -ℤ pos 1) = record { sfits = omega (arith, mag-pred (s .args .at .top), s .pre .1) } in
-    rw (toZ-pos w64 {n = s .args .at .top} (omega (arith, s .pre .1)), toZ-ofZ f)
+    λ m. rw (toZ-pos w64 {n = s .args .at .top} (omega (arith, s .pre .1)), toZ-ofZ f)
 
 pub record-of-spec : {M : Type 1} → statement M
 record-of-spec = tie.close (tie.spec cast-t5 cast-t6 sub-t7 returns)

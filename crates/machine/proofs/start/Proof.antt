@@ -1,8 +1,17 @@
 -- `start` meets its contract. Assumes nothing.
+use mathlib.Core.List.{[]}
 use borrow.Author.Needs.{needs}
+use Rattle.model.specs.Step.{Environment, Memory, asMemory, environmentOf}
 use Rattle.machine.proofs.CallLaws.{start-refuses, start-accepts}
 use Rattle.machine.proofs.start.Statement.{statement}
 use Rattle.machine.proofs.start.Tie as tie
+
+-- What the call was lent.
+abbrev lent : tie.Start → Environment
+lent s = environmentOf (s .args .p) (s .args .image .now) []
+
+abbrev memory : tie.Start → Memory
+memory s = asMemory (s .args .registers .now) (s .args .cells .now)
 
 start-refusal-requires : tie.Need-start-refusal-requires
 start-refusal-requires c κs = search needs
@@ -19,8 +28,8 @@ same-length-2 c = search needs
 returns : tie.Need-returns
 returns c =
     let checked = c .before .before in
-    let a = checked .before .before .before .before .args in
-    rw (c .zero-record .ensures) (start-refuses (a .p) (a .image .now) (a .registers .now) (a .cells .now) _ (checked .start-refusal .ensures) (c .before .if1 .taken))
+    let s = checked .before .before .before .before in
+    rw (c .zero-record .ensures) (start-refuses (lent s) (memory s) _ (checked .start-refusal .ensures) (c .before .if1 .taken))
 
 clear-requires : tie.Need-clear-requires
 clear-requires c κs = search needs
@@ -42,8 +51,9 @@ returns-2 c =
     let cleared = c .before .before in
     let first = cleared .before .before .before in
     let passed = first .before .before in
-    let a = passed .before .before .before .before .before .args in
-    rw (c .fresh .ensures) (start-accepts (a .p) (a .image .now) (a .registers .now) (a .cells .now) _ (passed .before .start-refusal .ensures) (passed .if1 .left) (first .clear .ensures) (cleared .clear2 .ensures))
+    let s = passed .before .before .before .before .before in
+    rw (c .fresh .ensures)
+    (start-accepts (lent s) (memory s) _ (passed .before .start-refusal .ensures) (passed .if1 .left) (first .clear .ensures) (cleared .clear2 .ensures))
 
 pub start-spec : {M : Type 1} → statement M
 start-spec =

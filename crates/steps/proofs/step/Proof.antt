@@ -50,7 +50,7 @@ returns c =
     let f = second-read second in
     let g = chosen .choose .ensures in
     let h = start .pre in
-    (failed h e f g (c .if1 .taken), output-left h e f g (c .if1 .taken) (start .args .out .now))
+    record { state = failed h e f g (c .if1 .taken); output = output-left h e f g (c .if1 .taken) (start .args .out .now) }
 
 apply-requires : tie.Need-apply-requires
 apply-requires c κs =
@@ -82,10 +82,11 @@ returns-2 c =
     let start = first .before .before .before .before in
     let e = first-read first in
     let f = second-read second in
-    let g = chosen .choose .ensures in (
-      λ image. stepped (start .pre) e f g (passed .if1 .left) image (applied .apply .ensures .0) (applied .apply .ensures .1 .0),
-      applied .apply .ensures .1 .1 ∙ ap (λ (l : List ℤ). outputAfter l (start .args .out .now)) (values-are (start .pre) e f g),
-    )
+    let g = chosen .choose .ensures in
+    record {
+      state = λ image. stepped (start .pre) e f g (passed .if1 .left) image (applied .apply .ensures .0) (applied .apply .ensures .1 .0);
+      output = applied .apply .ensures .1 .1 ∙ ap (λ (l : List ℤ). outputAfter l (start .args .out .now)) (values-are (start .pre) e f g);
+    }
 
 pub step-spec : {M : Type 1} → statement M
 step-spec =

@@ -4,6 +4,7 @@ use borrow.Author.Needs.{needs}
 use borrow.Author.Tests.{not-true, not-false}
 use denote.Ref.{now}
 use Rattle.model.proofs.Fits.{limits}
+use Rattle.model.specs.Calls.{asHeld}
 use Rattle.machine.proofs.RecordLaws.{by-numbers, by-registers, by-cells}
 use Rattle.machine.proofs.checks.record_fits.Statement.{statement}
 use Rattle.machine.proofs.checks.record_fits.Tie as tie
@@ -14,7 +15,7 @@ numbers-fit-requires c κs = search needs
 returns : tie.Need-returns
 returns c =
     let a = c .before .before .before .args in
-    λ image. by-numbers (a .rec) image (now (a .input)) (now (a .registers)) (now (a .cells))
+    λ image. by-numbers image (now (a .input)) (asHeld (a .rec) (now (a .registers)) (now (a .cells)))
     (sym (c .before .numbers-fit .ensures) ∙ not-true _ (c .if1 .taken))
 
 limit-of-requires : tie.Need-limit-of-requires
@@ -31,7 +32,7 @@ returns-2 c =
     let limit = c .before .before in
     let one = limit .before in
     let a = one .before .before .before .args in
-    λ image. by-registers (a .rec) image (now (a .input)) (now (a .registers)) (now (a .cells))
+    λ image. by-registers image (now (a .input)) (asHeld (a .rec) (now (a .registers)) (now (a .cells)))
     (sym (one .before .numbers-fit .ensures) ∙ not-false _ (one .if1 .left)) _ (limit .limit-of .ensures .0)
     (sym (c .before .values-fit .ensures) ∙ not-true _ (c .if2 .taken))
 
@@ -44,7 +45,7 @@ returns-3 c =
     let limit = two .before .before in
     let one = limit .before in
     let a = one .before .before .before .args in
-    λ image. c .values-fit2 .ensures ∙ by-cells (a .rec) image (now (a .input)) (now (a .registers)) (now (a .cells))
+    λ image. c .values-fit2 .ensures ∙ by-cells image (now (a .input)) (asHeld (a .rec) (now (a .registers)) (now (a .cells)))
     (sym (one .before .numbers-fit .ensures) ∙ not-false _ (one .if1 .left)) _ (limit .limit-of .ensures .0)
     (sym (two .before .values-fit .ensures) ∙ not-false _ (two .if2 .left))
 

@@ -1,94 +1,76 @@
 -- `start_refusal` meets its contract, check by check. Assumes nothing.
-use mathlib.Core.Path.{sym, _∙_}
+use mathlib.Core.Bool.{true}
+use mathlib.Core.List.{[]}
+use mathlib.Core.Path.{_≡_, sym, _∙_}
 use borrow.Author.Needs.{needs}
 use borrow.Author.Tests.{not-true, not-false}
 use denote.Ref.{now}
-use Rattle.model.specs.Parameters.{Fit}
-use Rattle.machine.proofs.RefusalLaws.{by-parameters, by-length, by-registers, by-cells, by-image, start-passed}
+use Rattle.model.proofs.Fits.{all-fit, shape-numbered, shape-fit}
+use Rattle.model.specs.Calls.{memoryFits, shapeChecks}
+use Rattle.model.specs.Step.{Environment, Memory, asMemory, environmentOf}
+use Rattle.machine.proofs.RefusalLaws.{shapeRefusal, by-shape, by-memory, by-image, start-passed}
 use Rattle.machine.proofs.checks.start_refusal.Statement.{statement}
 use Rattle.machine.proofs.checks.start_refusal.Tie as tie
 
--- The parameters are within their limits behind the first test.
-fit-of : (e : tie.Else1) → Fit (e .before .before .before .args .p)
-fit-of e = sym (e .before .parameter-refusal .ensures) ∙ e .if1 .left
+-- What the call was lent.
+abbrev lent : tie.Start → Environment
+lent s = environmentOf (s .args .p) (now (s .args .image)) []
 
-parameter-refusal-requires : tie.Need-parameter-refusal-requires
-parameter-refusal-requires c κs = search needs
+abbrev memory : tie.Start → Memory
+memory s = asMemory (now (s .args .registers)) (now (s .args .cells))
+
+-- 1 to 6 pass behind the first test, and 9 behind the second.
+shaped : (e : tie.Else1) → let s = e .before .before .before in shapeRefusal (s .args .p) (now (s .args .image)) ≡ 0
+shaped e = sym (e .before .shape-refusal .ensures) ∙ e .if1 .left
+
+fitting : (e : tie.Else2) → let s = e .before .before .before .before .before in memoryFits (s .args .p) (memory s) ≡ true
+fitting e = sym (e .before .memory-fits .ensures) ∙ not-false _ (e .if2 .left)
+
+shape-refusal-requires : tie.Need-shape-refusal-requires
+shape-refusal-requires c κs = search needs
 
 returns : tie.Need-returns
 returns c =
-    let a = c .before .before .before .args in
-    by-parameters (a .p) (now (a .image)) (now (a .registers)) (now (a .cells)) (c .before .parameter-refusal .ensures) (c .if1 .taken)
+    let s = c .before .before .before in
+    by-shape (lent s) (memory s) (c .before .shape-refusal .ensures) (c .if1 .taken)
 
-cast-if2 : tie.Need-cast-if2
-cast-if2 c = search needs
-
-mul-if2 : tie.Need-mul-if2
-mul-if2 c = search needs
+memory-fits-requires : tie.Need-memory-fits-requires
+memory-fits-requires c κs = search needs
 
 returns-2 : tie.Need-returns-2
 returns-2 c =
     let one = c .before .before in
-    let a = one .before .before .before .args in
-    by-length (a .p) (now (a .image)) (now (a .registers)) (now (a .cells)) (fit-of one) (c .if2 .taken)
+    let s = one .before .before .before in
+    by-memory (lent s) (memory s) (shaped one) (sym (c .before .memory-fits .ensures) ∙ not-true _ (c .if2 .taken))
 
-cast-if3 : tie.Need-cast-if3
-cast-if3 c = search needs
+image-fits-requires : tie.Need-image-fits-requires
+image-fits-requires c κs =
+    let one = c .before .before in
+    let a = one .before .before .before .args in
+    shape-fit (a .p) (now (a .image)) (all-fit (shapeChecks (a .p) (now (a .image))) (shape-numbered (a .p) (now (a .image))) (shaped one))
 
 returns-3 : tie.Need-returns-3
 returns-3 c =
     let two = c .before .before in
     let one = two .before .before in
-    let a = one .before .before .before .args in
-    by-registers (a .p) (now (a .image)) (now (a .registers)) (now (a .cells)) (fit-of one) (two .if2 .left) (c .if3 .taken)
-
-cast-if4 : tie.Need-cast-if4
-cast-if4 c = search needs
+    let s = one .before .before .before in
+    by-image (lent s) (memory s) (shaped one) (fitting two) (sym (c .before .image-fits .ensures) ∙ not-true _ (c .if3 .taken))
 
 returns-4 : tie.Need-returns-4
 returns-4 c =
-    let three = c .before .before in
-    let two = three .before .before in
+    let two = c .before .before in
     let one = two .before .before in
-    let a = one .before .before .before .args in
-    by-cells (a .p) (now (a .image)) (now (a .registers)) (now (a .cells)) (fit-of one) (two .if2 .left) (three .if3 .left) (c .if4 .taken)
-
-image-fits-requires : tie.Need-image-fits-requires
-image-fits-requires c κs = search needs
-
-returns-5 : tie.Need-returns-5
-returns-5 c =
-    let four = c .before .before in
-    let three = four .before .before in
-    let two = three .before .before in
-    let one = two .before .before in
-    let a = one .before .before .before .args in
-    by-image (a .p) (now (a .image)) (now (a .registers)) (now (a .cells)) (fit-of one) (two .if2 .left) (three .if3 .left) (four .if4 .left)
-    (sym (c .before .image-fits .ensures) ∙ not-true _ (c .if5 .taken))
-
-returns-6 : tie.Need-returns-6
-returns-6 c =
-    let four = c .before .before in
-    let three = four .before .before in
-    let two = three .before .before in
-    let one = two .before .before in
-    let a = one .before .before .before .args in
-    start-passed (a .p) (now (a .image)) (now (a .registers)) (now (a .cells)) (fit-of one) (two .if2 .left) (three .if3 .left) (four .if4 .left)
-    (sym (c .before .image-fits .ensures) ∙ not-false _ (c .if5 .left))
+    let s = one .before .before .before in
+    start-passed (lent s) (memory s) (shaped one) (fitting two) (sym (c .before .image-fits .ensures) ∙ not-false _ (c .if3 .left))
 
 pub start-refusal-spec : {M : Type 1} → statement M
 start-refusal-spec =
     tie.close
     (tie.spec
-    parameter-refusal-requires
+    shape-refusal-requires
     returns
-    cast-if2
-    mul-if2
+    memory-fits-requires
     returns-2
-    cast-if3
-    returns-3
-    cast-if4
-    returns-4
     image-fits-requires
-    returns-5
-    returns-6)
+    returns-3
+    returns-4)
