@@ -9,7 +9,7 @@ use lib.IntN.{ℤ}
 use lib.ListN.{take}
 use Rattle.model.specs.declared.Ending.{Ending}
 use Rattle.model.specs.declared.Ending.the-variants.{OutputFull}
-use Rattle.model.specs.Machine.{Machine, after, outputs, costs, Reaches, Largest, Priced}
+use Rattle.model.specs.Machine.{Machine, after, outputs, costs, Reaches, Largest, Priced, gathered}
 use Rattle.model.specs.Grants.{Account, Call, Result, Reply, lastEnding, accountAt, total, accept, refuse, grant, Works, nothing, refuses, accepts}
 use Rattle.model.proofs.Laws.{costs-inj, largest-none}
 use Rattle.model.proofs.One.{Accepted, accept-runs, runs-only}
@@ -159,7 +159,7 @@ module _ (M : Machine) where
         (cc, u, v)
 
     conclude : Priced M → (calls : List Call) → From 0 0 none calls (left calls) (gave calls) → Demand3 calls
-    unfolding outputs
+    unfolding gathered
     conclude priced calls t =
         let sum : t .g′ ≡ total calls (replies (gave calls)) = omega arith in
         record {
@@ -174,5 +174,5 @@ module _ (M : Machine) where
 
     -- DEMAND 3 holds of every list.
     pub demand3 : Priced M → (calls : List Call) → Demand3 calls
-    unfolding start costs after
+    unfolding start gathered after
     demand3 priced calls = conclude priced calls (from priced calls 0 0 none (λ i l. absurd (omega arith)) (le-refl 0) λ d. largest-none M priced)

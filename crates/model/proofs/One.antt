@@ -14,7 +14,7 @@ use borrow.Author.Tests.{ltb-true, ltb-false}
 use Rattle.model.specs.declared.Ending.{Ending}
 use Rattle.model.specs.declared.Ending.the-variants.{OutputFull}
 use Rattle.model.specs.declared.Outcome.the-variants.{Stopped}
-use Rattle.model.specs.Machine.{Machine, Look, stops, goes, after, outputs, costs, lookAt, Reaches, Largest, Priced}
+use Rattle.model.specs.Machine.{Machine, Look, stops, goes, after, outputs, costs, lookAt, Reaches, Largest, Priced, gathered}
 use Rattle.model.specs.Grants.{Call, Result, Standing, Stop, advance, loop, run, handBack, accept, sees, Runs, accountAt}
 use Rattle.model.proofs.Laws.{look-goes, look-stops, reaches-suc, largest}
 
@@ -56,7 +56,7 @@ module _ (M : Machine) where
 
     loop-runs : Priced M → (m fuel i : ℕ) (w : List ℤ) → Reaches M i → costs M i ≤ granted → outputs M i ≡ outputs M m ++ w → granted - costs M i < fuel →
         Reached m i (loop M granted room fuel (standing i w))
-    unfolding after outputs costs advance lookAt
+    unfolding after gathered advance lookAt
     loop-runs priced m zero i w r f o l = absurd (omega arith)
     loop-runs priced m (suc fuel) i w r f o l = go _ refl (loop-runs priced m fuel (suc i) (w ++ values (after M i)))
       where

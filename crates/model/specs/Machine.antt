@@ -1,4 +1,4 @@
--- Document 01, "Grants and their endings": the machine of demand 3, left abstract, its run, and the look before a step.
+-- Document 01, "Grants and their endings": the machine of demand 3, left abstract, its run, what is gathered along it, and the look before a step.
 use Prim.Native.Nat.{ℕ, zero, suc, _+_, _≤_, _<_}
 use mathlib.Core.Path.{_≡_}
 use mathlib.Core.Bool.{Bool, true, false}
@@ -23,6 +23,12 @@ pub record Machine : Type 1 where
   pub cost : St → ℕ
   pub values : St → List ℤ
   pub step : St → St
+
+-- What is gathered step by step: the value at first, and what a step makes of the value, by the state before the step.
+pub record Fold (St : Type 0) : Type 1 where
+  pub Value : Type 0
+  pub first : Value
+  pub note : St → Value → Value
 
 -- What a grant finds before a step.
 pub data Look : Type 0 where
@@ -49,15 +55,18 @@ module _ (M : Machine) where
   after zero = fresh
   after (suc m) = step (after m)
 
-  -- "the values output so far"
-  unfoldable pub outputs : ℕ → List ℤ
-  outputs zero = []
-  outputs (suc m) = outputs m ++ values (after m)
+  -- What the first m instructions gather.
+  unfoldable pub gathered : (K : Fold St) → ℕ → K .Value
+  gathered K zero = K .first
+  gathered K (suc m) = K .note (after m) (gathered K m)
+
+  -- "the values output so far": each step's behind those before it
+  abbrev pub outputs : ℕ → List ℤ
+  outputs m = gathered (record { Value = List ℤ; first = []; note = λ s w. w ++ values s }) m
 
   -- the sum of the costs of the first m instructions
-  unfoldable pub costs : ℕ → ℕ
-  costs zero = 0
-  costs (suc m) = costs m + cost (after m)
+  abbrev pub costs : ℕ → ℕ
+  costs m = gathered (record { Value = ℕ; first = 0; note = λ s n. n + cost s }) m
 
   -- "its run stops at the first failed or ended state": it has at least m instructions.
   abbrev pub Reaches : ℕ → Type 0
