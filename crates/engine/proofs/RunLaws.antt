@@ -5,22 +5,20 @@ use mathlib.Core.List.{List, [], _++_, append-assoc, append-nil}
 use mathlib.Core.Path.{_≡_, refl, sym, ap, _∙_}
 use native.Mathlib.Nat.{le-refl}
 use native.Mathlib.Omega.{arith}
-use lib.Dec.{ltb}
 use lib.IntN.{ℤ}
 use lib.ListN.{length, take, drop, length-append, length-drop, take-append-drop, drop-of-length-le}
 use lib.Seq.{length-take-le, drop-drop, take-at, drop-at}
-use borrow.Author.Tests.{ltb-false}
 use borrow.Rule.Slice.PartAt.{part-to-end}
 use borrow.Rule.Slice.PartMut.{putMid}
 use Rattle.model.proofs.Cells.{cell-fits}
 use Rattle.model.proofs.Costs.{priced, tak-run}
 use Rattle.model.proofs.Keeps.{Sound, is-running, step-keeps}
-use Rattle.model.proofs.Laws.{Going, look-goes}
+use Rattle.model.proofs.Laws.{Goes, going}
 use Rattle.model.specs.Grants.{Standing, Stop, advance, run}
 use Rattle.model.specs.Images.{cellFits}
 use Rattle.model.specs.Instructions.{rowOf}
 use Rattle.model.specs.Machine.{Look, stops, goes, lookAt}
-use Rattle.model.specs.Step.{Environment, Memory, State, Tak, currentCell, stateStatus, stepCost, stepValues, step, execute, settled, environmentOf}
+use Rattle.model.specs.Step.{Environment, Memory, State, Tak, currentCell, stepCost, stepValues, step, execute, settled, environmentOf}
 use Rattle.model.specs.declared.Ending.{Ending}
 use Rattle.effects.specs.Effects.{outputAfter}
 use Rattle.image.specs.Decode.{instructionOf, cellFrom}
@@ -158,22 +156,21 @@ module _ {e : Environment} {start : Core} {before granted : ℕ} {memory₀ : Me
     is-offered : o ≡ offered e s
     is-offered = found-runs e s seen f .1
 
-    going : Going (stateStatus e s) (ltb (granted - spent) (stepCost e s)) (ltb (length slice - count) (length (stepValues e s)))
-    unfolding lookAt
-    going = look-goes _ _ _ went
+    goes-from : Goes (Tak e) s (granted - spent) (length slice - count)
+    goes-from = going (Tak e) s _ _ went
 
     pub cost-paid : spent + o .cost ≤ granted
-    cost-paid = rw is-offered (omega (arith, g .paid, ltb-false (granted - spent) (stepCost e s) (going .paid)))
+    cost-paid = rw is-offered (omega (arith, g .paid, goes-from .paid))
 
     pub cost-some : 1 ≤ o .cost
-    cost-some = rw is-offered (priced e (h .fit) s (going .run))
+    cost-some = rw is-offered (priced e (h .fit) s (goes-from .run))
 
     pub room-for : count + o .values ≤ length slice
-    room-for = rw is-offered (omega (arith, g .within, ltb-false (length slice - count) (length (stepValues e s)) (going .room)))
+    room-for = rw is-offered (omega (arith, g .within, goes-from .room-for))
 
     cell-is : cellFits (e .parameters) (currentCell e s) ≡ true
     cell-is =
-        let r = is-running e s (going .run) in
+        let r = is-running e s (goes-from .run) in
         cell-fits (e .parameters) (e .parameters .t) (e .image) (at .iar) (h .image-fits) (omega (arith, g .sound .iar, r .iar)) (r .cell)
 
     values-are : written (o .instruction) at memory ≡ stepValues e s
@@ -190,7 +187,7 @@ module _ {e : Environment} {start : Core} {before granted : ℕ} {memory₀ : Me
           limit-is = h .limit-is;
           sound = sound-image (g .sound);
           instruction = rw is-offered cell-is;
-          room-for = rw (part-length, values-are) (ltb-false (length slice - count) (length (stepValues e s)) (going .room));
+          room-for = rw (part-length, values-are) (goes-from .room-for);
         }
 
     module _ (next : Core) {memory′ : Memory} {part slice′ : List ℤ}
@@ -205,7 +202,7 @@ module _ {e : Environment} {start : Core} {before granted : ℕ} {memory₀ : Me
       v = stepValues e s
 
       room : length v ≤ length slice - count
-      room = ltb-false (length slice - count) (length v) (going .room)
+      room = goes-from .room-for
 
       is-wrote : slice′ ≡ take count slice ++ outputAfter v (drop count slice)
       is-wrote = came-back ∙ put-end count slice part ∙ ap (λ (l : List ℤ). take count slice ++ l) (output ∙ rw (values-are, part-to-end))
@@ -219,7 +216,7 @@ module _ {e : Environment} {start : Core} {before granted : ℕ} {memory₀ : Me
             rest = drop-wrote slice v count (g .within) room ∙ rw (g .rest, drop-drop);
             within = rw (length-wrote slice v count (g .within) room) (omega (arith, g .within, room));
             long = length-wrote slice v count (g .within) room ∙ g .long;
-            paid = omega (arith, g .paid, ltb-false (granted - spent) (stepCost e s) (going .paid));
+            paid = omega (arith, g .paid, goes-from .paid);
             rises = omega (arith, g .rises);
-            sound = rw is-step (step-keeps e (h .fit) (h .image-fits) s (g .sound) (going .run));
+            sound = rw is-step (step-keeps e (h .fit) (h .image-fits) s (g .sound) (goes-from .run));
           })

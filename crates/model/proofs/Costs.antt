@@ -1,23 +1,23 @@
 -- Every step costs at least one cycle, so that the grant loop has fuel enough. Assumes nothing.
-use Prim.Native.Nat.{ℕ, zero, suc, _-_, _≤_}
+use Prim.Native.Nat.{ℕ, zero, suc, _≤_}
 use mathlib.Core.Path.{_≡_, refl}
 use mathlib.Core.Bool.{Bool, true, _&&_}
 use mathlib.Core.List.{List, [], _∷_}
 use native.Mathlib.Nat.{one-le-mul}
 use native.Mathlib.Omega.{arith}
 use lib.Dec.{leb}
-use lib.ListN.{getD, length}
+use lib.ListN.{getD}
 use borrow.Author.Tests.{leb-true}
 use Rattle.model.specs.declared.Parameters.{Parameters}
 use Rattle.model.specs.Parameters.{Fit}
 use Rattle.model.specs.Words.{Cell}
 use Rattle.model.specs.Instructions.{Multiplier, one, byRegisters, byCells, rowOf, directs, times, costOf}
-use Rattle.model.specs.Machine.{Priced, stops, goes, lookAt}
-use Rattle.model.specs.Grants.{Standing, advance, run}
+use Rattle.model.specs.Machine.{Priced, stops, goes}
+use Rattle.model.specs.Grants.{Standing, advance, lookFrom, run}
 use Rattle.model.specs.Step.{Environment, State, Tak, currentCell, stepCost}
 use Rattle.model.proofs.Fits.{both, Limits, limits}
 use Rattle.model.proofs.Rows.{row-rule}
-use Rattle.model.proofs.Fuel.{run-law}
+use Rattle.model.proofs.Loop.{run-law}
 
 -- No price of a row is 0.
 abbrev arePrices : List ℕ → Bool
@@ -50,7 +50,7 @@ priced e f s r = cost-pos (e .parameters) f (currentCell e s)
 -- The grant loop of the TAK machine: look; stop, or step and go on.
 pub tak-run : (e : Environment) → Fit (e .parameters) → (granted room : ℕ) (a : Standing State) →
     run (Tak e) granted room a
-    ≡ elim (lookAt (Tak e) (a .state) (granted - a .spent) (room - length (a .written))) [
+    ≡ elim (lookFrom (Tak e) granted room a) [
       | stops x ↦ record { ending = x; at = a }
       | goes ↦ run (Tak e) granted room (advance (Tak e) a)
     ]

@@ -17,7 +17,7 @@ use Rattle.model.specs.Step.{Environment, State, Tak, currentCell, state
 use Rattle.model.specs.Calls.{Held, grantRefusal, accountOf, environmentFor, Granted, granted, heldAfter, endingWord, outcomeWord, stopWord}
 use Rattle.model.proofs.Fits.{grant-accepted}
 use Rattle.model.proofs.Costs.{priced}
-use Rattle.model.proofs.Fuel.{run-looks}
+use Rattle.model.proofs.Loop.{run-looks}
 
 -- The tests of the look, in order, with their words.
 look-word : (fine over short crowded : Bool) (x : Ending) →

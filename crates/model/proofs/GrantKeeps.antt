@@ -1,58 +1,39 @@
 -- An accepted grant leaves a record and memory that pass refusal 15 again, and so does an accepted start. Assumes nothing.
-use Prim.Native.Nat.{ℕ, zero, suc, _+_, _-_, _≤_}
+use Prim.Native.Nat.{ℕ, zero, suc, _+_, _≤_}
 use mathlib.Core.Path.{_≡_, refl, ap, _∙_}
 use mathlib.Core.Bool.{Bool, true}
 use mathlib.Core.List.{List, [], _∷_, _++_}
 use native.Mathlib.Nat.{le-refl}
 use native.Mathlib.Omega.{arith}
-use lib.Dec.{ltb}
 use lib.ListN.{length}
-use borrow.Author.Tests.{ltb-false, leb-true, le-leb}
+use borrow.Author.Tests.{leb-true, le-leb}
 use Rattle.model.specs.Parameters.{Fit, refusalOf}
-use Rattle.model.specs.Machine.{Machine, running, Look, stops, goes, lookAt}
-use Rattle.model.specs.Grants.{Call, Account, Standing, handBack, refuse, advance, loop, run, accept, grant}
+use Rattle.model.specs.Images.{imageFits}
+use Rattle.model.specs.Machine.{goes}
+use Rattle.model.specs.Grants.{Call, Account, Standing, handBack, refuse, advance, lookFrom, run, accept, grant}
 use Rattle.model.specs.Step.{Environment, Memory, State, Tak, freshState}
 use Rattle.model.specs.Calls.{freshRecord, startChecks, freshMemory, Started, started, heldAfterStart, recordTests, memoryTests, memoryOf, recordFits, grantRefusal, accountOf}
 use Rattle.model.proofs.Fits.{all-true, all-pass, Sized, GrantFits, start-accepted, grant-accepted}
-use Rattle.model.proofs.Laws.{look-goes}
-use Rattle.model.proofs.One.{loop-stops, loop-goes}
+use Rattle.model.proofs.Laws.{going}
+use Rattle.model.proofs.Loop.{run-keeps}
 use Rattle.model.proofs.Lists.{final}
 use Rattle.model.proofs.Lists as lists
 use Rattle.model.proofs.Keeps.{Sound, step-keeps, fresh-sound}
 
--- THE LOOP, of any machine, with any P that its steps keep.
-module _ (M : Machine) where
-  open Machine M using (St, status, cost, values, step)
+-- THE LOOP
+module _ (e : Environment) (granted before : ℕ) where
+  -- The state is sound, no more is spent than granted, and no less than before.
+  record Keeping (a : Standing State) : Type 0 where
+    state : Sound e (a .state)
+    within : a .spent ≤ granted
+    rises : before ≤ a .spent
 
-  -- P holds, no more is spent than granted, and no less than before.
-  pub record Keeping (P : St → Type 0) (granted before : ℕ) (a : Standing St) : Type 0 where
-    pub state : P (a .state)
-    pub within : a .spent ≤ granted
-    pub rises : before ≤ a .spent
-
-  module _ (P : St → Type 0) (kept : (s : St) → P s → status s ≡ running → P (step s)) (granted room before : ℕ) where
-    advance-keeps : (a : Standing St) → lookAt M (a .state) (granted - a .spent) (room - length (a .written)) ≡ goes → Keeping P granted before a → Keeping P granted before (advance M a)
-    unfolding lookAt advance
-    advance-keeps a h k =
-        let short = ltb (granted - a .spent) (cost (a .state)) in
-        let g = look-goes (status (a .state)) short (ltb (room - length (a .written)) (length (values (a .state)))) h in
-        let d = ltb-false (granted - a .spent) (cost (a .state)) (g .paid) in
-        record { state = kept (a .state) (k .state) (g .run); within = omega arith; rises = omega arith }
-
-    pub loop-keeps : (fuel : ℕ) (a : Standing St) → Keeping P granted before a → Keeping P granted before (loop M granted room fuel a .at)
-    unfolding loop
-    loop-keeps zero a k = k
-    loop-keeps (suc n) a k = go _ refl (loop-keeps n (advance M a))
-      where
-        go : (v : Look) → lookAt M (a .state) (granted - a .spent) (room - length (a .written)) ≡ v →
-            (Keeping P granted before (advance M a) → Keeping P granted before (loop M granted room n (advance M a) .at)) →
-            Keeping P granted before (loop M granted room (suc n) a .at)
-        go (stops e) h ih = rw (loop-stops M granted room n a e h) k
-        go goes h ih = rw (loop-goes M granted room n a h) (ih (advance-keeps a h k))
-
-    pub run-keeps : (a : Standing St) → Keeping P granted before a → Keeping P granted before (run M granted room a .at)
-    unfolding run
-    run-keeps a k = loop-keeps (suc (granted - a .spent)) a k
+  advance-keeps : Fit (e .parameters) → imageFits (e .parameters) (e .image) ≡ true → (room : ℕ) (a : Standing State) → Keeping a →
+      lookFrom (Tak e) granted room a ≡ goes → Keeping (advance (Tak e) a)
+  unfolding advance
+  advance-keeps f i room a k h =
+      let g = going (Tak e) (a .state) _ _ h in
+      record { state = step-keeps e f i (a .state) (k .state) (g .run); within = omega (arith, g .paid); rises = omega arith }
 
 -- THE RECORD
 -- What 15 asks of a record and the memory, and the lengths of the memory.
@@ -116,9 +97,11 @@ module _ (e : Environment) (a : Account State) (c : Call) where
   unfolding accept handBack
   accept-kept g =
       let s = record-sound e a (g .record-fits) (g .start .sized) in
+      let granted = a .granted + c .cycles in
       let k =
-      run-keeps (Tak e) (Sound e) (step-keeps e (g .start .fit) (g .start .image-fits)) (a .granted + c .cycles) (length (c .slice))
-      (a .spent) (record { state = a .state; spent = a .spent; written = [] })
+      run-keeps (Tak e) granted (length (c .slice)) (Keeping e granted (a .spent))
+      (advance-keeps e granted (a .spent) (g .start .fit) (g .start .image-fits) (length (c .slice)))
+      (record { state = a .state; spent = a .spent; written = [] })
       (record { state = s .state; within = omega arith; rises = le-refl (a .spent) }) in
       record {
         sound = record { state = k .state; spent = k .within; granted = g .granted };

@@ -6,23 +6,20 @@ use mathlib.Core.Logic.{_⊎_, inl, inr}
 use native.Mathlib.Omega.{arith}
 use native.Mathlib.Decide.{decLt}
 use native.Mathlib.Nat.{le-refl, eq-or-lt-of-le, le-of-suc-le-suc}
+use lib.ListN.{length}
+use borrow.Author.Tests.{ltb-false}
 use Rattle.model.specs.declared.Ending.{Ending}
 use Rattle.model.specs.declared.Ending.the-variants.{OutputFull}
-use Rattle.model.specs.Machine.{Machine, Status, running, stops, goes, look, after, costs, Reaches, Largest, Priced, gathered}
+use Rattle.model.specs.Machine.{Machine, Status, running, stops, goes, look, lookAt, after, gathered, costs, Reaches, Largest, Priced}
 
 -- What `look` says, read backwards.
-pub record Going (u : Status) (short crowded : Bool) : Type 0 where
-  pub run : u ≡ running
-  pub paid : short ≡ false
-  pub room : crowded ≡ false
-
-pub look-goes : (u : Status) (short crowded : Bool) → look u short crowded ≡ goes → Going u short crowded
+look-goes : (u : Status) (short crowded : Bool) → look u short crowded ≡ goes → (u ≡ running) × (short ≡ false) × (crowded ≡ false)
 unfolding look
-look-goes Status.failed short crowded h = record { run = cc; paid = cc; room = cc }
-look-goes Status.ended short crowded h = record { run = cc; paid = cc; room = cc }
-look-goes running true crowded h = record { run = cc; paid = cc; room = cc }
-look-goes running false true h = record { run = cc; paid = cc; room = cc }
-look-goes running false false h = record { run = cc; paid = cc; room = cc }
+look-goes Status.failed short crowded h = (cc, cc, cc)
+look-goes Status.ended short crowded h = (cc, cc, cc)
+look-goes running true crowded h = (cc, cc, cc)
+look-goes running false true h = (cc, cc, cc)
+look-goes running false false h = (refl, refl, refl)
 
 -- A look that stops, though not for a full output: the run is over, or the next step is too dear.
 pub look-stops : (u : Status) (short crowded : Bool) (e : Ending) → look u short crowded ≡ stops e → ¬ (e ≡ OutputFull) → u ≡ running → short ≡ true
@@ -35,6 +32,18 @@ look-stops running false false e h f r = cc
 
 module _ (M : Machine) where
   open Machine M using (St, fresh, status, cost, values, step)
+
+  -- A look that goes on: the state runs, its step is paid for, and its values have room.
+  pub record Goes (s : St) (allowance room : ℕ) : Type 0 where
+    pub run : status s ≡ running
+    pub paid : cost s ≤ allowance
+    pub room-for : length (values s) ≤ room
+
+  pub going : (s : St) (allowance room : ℕ) → lookAt M s allowance room ≡ goes → Goes s allowance room
+  unfolding lookAt
+  going s allowance room h =
+      let (run, paid, fits) = look-goes (status s) _ _ h in
+      record { run = run; paid = ltb-false allowance (cost s) paid; room-for = ltb-false room (length (values s)) fits }
 
   -- The cost sum never falls.
   pub costs-le : (m n : ℕ) → m ≤ n → costs M m ≤ costs M n

@@ -10,7 +10,7 @@ pub mod Keeps
 pub mod GrantKeeps
 pub mod Laws
 pub mod One
-pub mod Fuel
+pub mod Loop
 pub mod Lists
 pub mod Demand
 pub mod Refusals

@@ -9,7 +9,7 @@ use lib.IntN.{ℤ}
 use lib.ListN.{take}
 use Rattle.model.specs.declared.Ending.{Ending}
 use Rattle.model.specs.declared.Ending.the-variants.{OutputFull}
-use Rattle.model.specs.Machine.{Machine, after, outputs, costs, Reaches, Largest, Priced, gathered}
+use Rattle.model.specs.Machine.{Machine, after, gathered, outputs, costs, Reaches, Largest, Priced}
 use Rattle.model.specs.Grants.{Account, Call, Result, Reply, lastEnding, accountAt, total, accept, refuse, grant, Works, nothing, refuses, accepts}
 use Rattle.model.proofs.Laws.{costs-inj, largest-none}
 use Rattle.model.proofs.One.{Accepted, accept-runs, runs-only}

@@ -78,11 +78,15 @@ module _ (M : Machine) where
   unfoldable pub advance : Standing St → Standing St
   advance a = record { state = step (a .state); spent = a .spent + cost (a .state); written = a .written ++ values (a .state) }
 
-  -- Look; stop, or step and look again. The fuel is never used up (proofs/Fuel.antt).
+  -- What a grant finds where it stands.
+  abbrev pub lookFrom : (granted room : ℕ) → Standing St → Look
+  lookFrom granted room a = lookAt M (a .state) (granted - a .spent) (room - length (a .written))
+
+  -- Look; stop, or step and look again. The fuel is never used up (proofs/Loop.antt).
   unfoldable pub loop : (granted room fuel : ℕ) → Standing St → Stop St
   loop granted room zero a = record { ending = Paused; at = a }
   loop granted room (suc n) a =
-      elim (lookAt M (a .state) (granted - a .spent) (room - length (a .written))) [
+      elim (lookFrom granted room a) [
         | stops e ↦ record { ending = e; at = a }
         | goes ↦ loop granted room n (advance a)
       ]

@@ -7,13 +7,14 @@ use native.Mathlib.Nat.{le-refl}
 use native.Mathlib.Omega.{arith}
 use lib.IntN.{ℤ}
 use lib.ListN.{length}
-use borrow.Author.Tests.{ltb-true, ltb-false}
+use borrow.Author.Tests.{ltb-true}
 use Rattle.model.proofs.Costs.{priced, tak-run}
 use Rattle.model.proofs.Fits.{limits, grant-accepted}
-use Rattle.model.proofs.GrantKeeps.{Keeping, run-keeps, record-sound, grant-kept}
-use Rattle.model.proofs.Keeps.{Sound, step-keeps}
-use Rattle.model.proofs.Laws.{look-goes}
+use Rattle.model.proofs.GrantKeeps.{record-sound, grant-kept}
+use Rattle.model.proofs.Keeps.{Sound}
+use Rattle.model.proofs.Laws.{going}
 use Rattle.model.proofs.Lists as lists
+use Rattle.model.proofs.Loop.{run-keeps}
 use Rattle.model.proofs.Refusals.{grant-refused}
 use Rattle.model.specs.Calls.{accountOf, Granted, granted, grantRefusal}
 use Rattle.model.specs.Grants.{Call, Account, Standing, Stop, advance, run, accept, handBack}
@@ -87,23 +88,12 @@ module _ (e : Environment) (a : Account State) (c : Call) (h : grantRefusal e a 
           absurd (omega (arith, room, few e fit (a .state) sound, ltb-true (length (c .slice) - 0) (length (stepValues e (a .state))) crowded))
       go goes q =
           let s : stop ≡ run (Tak e) given (length (c .slice)) (advance (Tak e) begin) = tak-run e fit given (length (c .slice)) begin ∙ rw q in
-          let g = look-goes (stateStatus e (a .state)) _ _ q in
-          let cost = stepCost e (a .state) in
-          let paid = ltb-false (given - a .spent) cost (g .paid) in
-          let some = priced e fit (a .state) (g .run) in
-          let sum = record-sound e a (grant-accepted e a c h .record-fits) (grant-accepted e a c h .start .register-count) (grant-accepted e a c h .start .cell-count) .spent in
-          let kept : Keeping (Tak e) (Sound e) given (a .spent + cost) (advance (Tak e) begin) =
-          record {
-            state = step-keeps e fit (grant-accepted e a c h .start .image-fits) (a .state) sound (g .run);
-            within = omega (arith, paid, sum);
-            rises = le-refl (a .spent + cost);
-          }
-          in
+          let some = priced e fit (a .state) (going (Tak e) (a .state) _ _ q .run) in
           let on =
-          run-keeps (Tak e) (Sound e) (step-keeps e fit (grant-accepted e a c h .start .image-fits)) given (length (c .slice)) (a .spent + cost)
-          (advance (Tak e) begin) kept
+          run-keeps (Tak e) given (length (c .slice)) (λ b. a .spent + stepCost e (a .state) ≤ b .spent) (λ b k q. omega arith) (advance (Tak e) begin)
+          (le-refl _)
           in
-          rw s (omega (arith, on .rises, some))
+          rw s (omega (arith, on, some))
 
 -- An ending that is followed by another grant is a full output.
 full-ending : (x : Ending) → isFull (Stopped x) ≡ true → x ≡ OutputFull
