@@ -69,32 +69,26 @@ module _ (e : Environment) (l : Limits (e .parameters)) where
       (λ q. range-mag (limitOf e) (numberOf (contentOf w)) one (r (eqb-true (kindOf w) 3 q)))
       (λ q. one)))
 
--- CHANGING one thing of a sound state.
+-- CHANGING one thing of a sound state. `search` takes all else from h.
 module _ {e : Environment} {s : State} (h : Sound e s) where
   iar-sound : (i : ℕ) → i ≤ e .parameters .t → Sound e (withIAR i s)
-  iar-sound i k =
-      record { iar = k; ircr = h .ircr; low = h .low; high = h .high; place = h .place; registers = h .registers; cells = h .cells; register-count = h .register-count; cell-count = h .cell-count }
+  iar-sound i k = search
 
   ircr-sound : (i : ℕ) → i ≤ 3 → Sound e (withIRCR i s)
-  ircr-sound i k =
-      record { iar = h .iar; ircr = k; low = h .low; high = h .high; place = h .place; registers = h .registers; cells = h .cells; register-count = h .register-count; cell-count = h .cell-count }
+  ircr-sound i k = search
 
   shr-sound : (z : ℤ) → leZ (pos (e .parameters .b) -ℤ pos 1) z ≡ true → leZ z (pos (e .parameters .s) -ℤ pos 1) ≡ true →
       Sound e (withSHR z s)
-  shr-sound z j k =
-      record { iar = h .iar; ircr = h .ircr; low = j; high = k; place = h .place; registers = h .registers; cells = h .cells; register-count = h .register-count; cell-count = h .cell-count }
+  shr-sound z j k = search
 
   place-sound : (i : ℕ) → i ≤ length (e .input) → Sound e (withPlace i s)
-  place-sound i k =
-      record { iar = h .iar; ircr = h .ircr; low = h .low; high = h .high; place = k; registers = h .registers; cells = h .cells; register-count = h .register-count; cell-count = h .cell-count }
+  place-sound i k = search
 
   registers-sound : (zs : List ℤ) → allInRange (limitOf e) zs ≡ true → length zs ≡ e .parameters .n → Sound e (withRegisters zs s)
-  registers-sound zs j k =
-      record { iar = h .iar; ircr = h .ircr; low = h .low; high = h .high; place = h .place; registers = j; cells = h .cells; register-count = k; cell-count = h .cell-count }
+  registers-sound zs j k = search
 
   cells-sound : (zs : List ℤ) → allInRange (limitOf e) zs ≡ true → length zs ≡ e .parameters .s → Sound e (withCells zs s)
-  cells-sound zs j k =
-      record { iar = h .iar; ircr = h .ircr; low = h .low; high = h .high; place = h .place; registers = h .registers; cells = j; register-count = h .register-count; cell-count = k }
+  cells-sound zs j k = search
 
 -- A register or a data cell is set to a value in range.
 module _ {e : Environment} (l : Limits (e .parameters)) {s : State} (h : Sound e s) where
@@ -288,4 +282,14 @@ step-keeps e f i s h r =
 pub fresh-sound : (e : Environment) → Fit (e .parameters) → Sound e (freshState (e .parameters))
 fresh-sound e f =
     let l = limits (e .parameters) f in
-    record { iar = omega arith; ircr = omega arith; low = heads (e .parameters .b) (e .parameters .b) (le-refl (e .parameters .b)); high = heads (e .parameters .b) (e .parameters .s) (l .b-high); place = omega arith; registers = replicate-range (limitOf e) (e .parameters .n) (one e l); cells = replicate-range (limitOf e) (e .parameters .s) (one e l); register-count = length-replicate (e .parameters .n) (pos 0); cell-count = length-replicate (e .parameters .s) (pos 0) }
+    record {
+      iar = omega arith;
+      ircr = omega arith;
+      low = heads (e .parameters .b) (e .parameters .b) (le-refl (e .parameters .b));
+      high = heads (e .parameters .b) (e .parameters .s) (l .b-high);
+      place = omega arith;
+      registers = replicate-range (limitOf e) (e .parameters .n) (one e l);
+      cells = replicate-range (limitOf e) (e .parameters .s) (one e l);
+      register-count = length-replicate (e .parameters .n) (pos 0);
+      cell-count = length-replicate (e .parameters .s) (pos 0);
+    }
