@@ -71,18 +71,7 @@ put-end k out part = rw (drop-of-length-le (drop k out) {i = length out - k} (rw
 
 -- What refusal 15 asks does not depend on the image.
 pub sound-image : {e : Environment} {s : State} → Sound e s → Sound (environmentOf (e .parameters) [] (e .input)) s
-sound-image h =
-    record {
-      iar = h .iar;
-      ircr = h .ircr;
-      low = h .low;
-      high = h .high;
-      place = h .place;
-      registers = h .registers;
-      cells = h .cells;
-      register-count = h .register-count;
-      cell-count = h .cell-count;
-    }
+sound-image h = search
 
 -- THE LOOP, from where a run began.
 module _ (e : Environment) (start : Core) (before granted : ℕ) (memory₀ : Memory) (slice₀ : List ℤ) where
