@@ -10,9 +10,9 @@ use borrow.Author.Tests.{eq-eqb, ne-eqb}
 use Rattle.model.proofs.Cells.{CellReadable, cell-readable}
 use Rattle.model.proofs.Fits.{both, is-between, Limits, limits}
 use Rattle.model.proofs.Keeps.{value-mag}
-use Rattle.model.proofs.Ranges.{WritesRange, row-range}
+use Rattle.model.proofs.Ranges.{row-range}
 use Rattle.model.specs.Images.{cellFits}
-use Rattle.model.specs.Instructions.{Operation, clearRegisters, clearCells, dumpRegisters, dumpCells, inputs, outputs, pushes, pops, skips, idles, writes, jumps, jumpsOn, rowOf}
+use Rattle.model.specs.Instructions.{rowOf}
 use Rattle.model.specs.Parameters.{limit, between}
 use Rattle.model.specs.Step.{asMemory, State, environmentOf, valueOf, execute, settled}
 use Rattle.model.specs.declared.Parameters.{Parameters}
@@ -26,7 +26,7 @@ use Rattle.steps.specs.Choices.{planOf, Choosable}
 use Rattle.plans.specs.Plans.{registersAfter, cellsAfter, valuesOf, planned}
 use Rattle.plans.specs.declared.Plan.{Plan}
 use Rattle.steps.specs.Steppable.{written, Steppable}
-use Rattle.steps.proofs.Steps.{Steady, plan-step, plan-values, plan-silent, Codes}
+use Rattle.steps.proofs.Steps.{Does, Steady, plan-does}
 use Rattle.steps.proofs.Targets.{names-target}
 use Rattle.steps.proofs.Tops.{top-between}
 
@@ -60,46 +60,29 @@ module _ {i : Instruction} {p : Parameters} {m : ℕ} {at : Core} {input : List 
   readable : CellReadable p (cellFrom i)
   readable = cell-readable p (cellFrom i) (h .instruction)
 
-  -- The values of the first two words, as they were read.
-  pub choosable : {x y : ℤ} → x ≡ valueOf s (i .first) → y ≡ valueOf s (i .second) → Choosable (i .number) p m x y at registers cells input
-  unfolding cellFits
-  choosable e f =
-      let n = is-between 1 54 (i .number) (both (between 1 54 (i .number)) _ (h .instruction) .0) in
-      let x = value-mag (environmentOf p [] input) known s (h .sound) (i .first) (readable .first) in
-      let y = value-mag (environmentOf p [] input) known s (h .sound) (i .second) (readable .second) in
-      record {
-        from = n .0;
-        to = n .1;
-        limit-is = h .limit-is;
-        is-limit = is-limit p (h .fit) (h .limit-is);
-        first = rw (e, h .limit-is) x;
-        second = rw (f, h .limit-is) y;
-        bounded = bounded;
-        low = top-between (p .b) (at .top) (h .sound .low);
-        high = omega (arith, top-high, h .sound .cell-count);
-        place = h .sound .place;
-      }
-
   first-within : mag (valueOf s (i .first)) < limit (p .k)
   first-within = value-mag (environmentOf p [] input) known s (h .sound) (i .first) (readable .first)
 
   second-within : mag (valueOf s (i .second)) < limit (p .k)
   second-within = value-mag (environmentOf p [] input) known s (h .sound) (i .second) (readable .second)
 
-  codes : (image : List ℕ) (o : Operation) → WritesRange (limit (p .k)) o → Codes (environmentOf p image input) at registers cells o (cellFrom i)
-  codes image clearRegisters r = tt
-  codes image clearCells r = tt
-  codes image dumpRegisters r = tt
-  codes image dumpCells r = tt
-  codes image inputs r = tt
-  codes image outputs r = tt
-  codes image pushes r = tt
-  codes image pops r = tt
-  codes image skips r = tt
-  codes image idles r = tt
-  codes image (writes to f) r = r (valueOf s (i .first)) (valueOf s (i .second)) first-within second-within
-  codes image (jumps test) r = tt
-  codes image (jumpsOn b) r = tt
+  -- The values of the first two words, as they were read.
+  pub choosable : {x y : ℤ} → x ≡ valueOf s (i .first) → y ≡ valueOf s (i .second) → Choosable (i .number) p m x y at registers cells input
+  unfolding cellFits
+  choosable e f =
+      let n = is-between 1 54 (i .number) (both (between 1 54 (i .number)) _ (h .instruction) .0) in
+      record {
+        from = n .0;
+        to = n .1;
+        limit-is = h .limit-is;
+        is-limit = is-limit p (h .fit) (h .limit-is);
+        first = rw (e, h .limit-is) first-within;
+        second = rw (f, h .limit-is) second-within;
+        bounded = bounded;
+        low = top-between (p .b) (at .top) (h .sound .low);
+        high = omega (arith, top-high, h .sound .cell-count);
+        place = h .sound .place;
+      }
 
   steady : (image : List ℕ) → Steady (environmentOf p image input) at registers cells (rowOf (i .number) .operation) (cellFrom i)
   steady image =
@@ -109,7 +92,9 @@ module _ {i : Instruction} {p : Parameters} {m : ℕ} {at : Core} {input : List 
         low = top-between (p .b) (at .top) (h .sound .low);
         high = bounded .top;
         target = names-target p (cellFrom i) (h .instruction);
-        codes = codes image (rowOf (i .number) .operation) (row-range (p .k) (i .number) (known .k-low));
+        first-within = first-within;
+        second-within = second-within;
+        range = row-range (p .k) (i .number) (known .k-low);
       }
 
   -- The plan that was chosen, with the values as they were read.
@@ -118,16 +103,14 @@ module _ {i : Instruction} {p : Parameters} {m : ℕ} {at : Core} {input : List 
     chosen : plan ≡ planOf p input at registers cells (rowOf (i .number) .operation) (cellFrom i) (valueOf s (i .first)) (valueOf s (i .second))
     chosen = rw (e, f) at g
 
+    does : (image : List ℕ) → Does registers cells at plan (execute (environmentOf p image input) (rowOf (i .number) .operation) (cellFrom i) s) (written i at (asMemory registers cells))
+    does image = rw chosen (plan-does (environmentOf p image input) at registers cells (rowOf (i .number) .operation) (cellFrom i) (steady image))
+
     pub values-are : valuesOf (plan .to) (plan .value) registers cells ≡ written i at (asMemory registers cells)
-    values-are = rw chosen (plan-values (environmentOf p [] input) at registers cells (rowOf (i .number) .operation) (cellFrom i) (steady []))
+    values-are = does [] .values
 
     pub room-enough : length (valuesOf (plan .to) (plan .value) registers cells) ≤ room
     room-enough = rw values-are (h .room-for)
-
-    planned-is : (image : List ℕ) → planned at plan registers cells
-        ≡ settled s (execute (environmentOf p image input) (rowOf (i .number) .operation) (cellFrom i) s)
-    planned-is image =
-        rw chosen (plan-step (environmentOf p image input) at registers cells (rowOf (i .number) .operation) (cellFrom i) (steady image))
 
     -- A plan that succeeds.
     pub stepped : plan .next .ircr ≡ 0 → (image : List ℕ) → {registers′ cells′ : List ℤ} → registers′ ≡ registersAfter (plan .to) (plan .value) registers →
@@ -135,7 +118,7 @@ module _ {i : Instruction} {p : Parameters} {m : ℕ} {at : Core} {input : List 
         stateOf (plan .next) registers′ cells′
         ≡ settled s (execute (environmentOf p image input) (rowOf (i .number) .operation) (cellFrom i) s)
     unfolding planned
-    stepped z image r c = rw (r, c) ((rw (eq-eqb (plan .next .ircr) 0 z) at planned-is image))
+    stepped z image r c = rw (r, c) ((rw (eq-eqb (plan .next .ircr) 0 z) at (does image .step)))
 
     -- A plan that fails: IRCR is set, and the registers, the data cells and the output stay.
     module _ (n : ¬ (plan .next .ircr ≡ 0)) where
@@ -144,10 +127,7 @@ module _ {i : Instruction} {p : Parameters} {m : ℕ} {at : Core} {input : List 
           ≡ settled s (execute (environmentOf p image input) (rowOf (i .number) .operation) (cellFrom i) s)
       unfolding planned
       failed image =
-          (rw (ne-eqb (plan .next .ircr) 0 n) at planned-is image)
+          (rw (ne-eqb (plan .next .ircr) 0 n) at (does image .step))
 
       pub output-left : (out : List ℤ) → out ≡ outputAfter (written i at (asMemory registers cells)) out
-      output-left out =
-          ap (λ (l : List ℤ). outputAfter l out)
-          (plan-silent (environmentOf p [] input) at registers cells (rowOf (i .number) .operation) (cellFrom i)
-          (rw chosen at n))
+      output-left out = ap (λ (l : List ℤ). outputAfter l out) (does [] .silent n)

@@ -2,6 +2,7 @@
 use Prim.Native.Nat.{ℕ, zero, suc, _≤_, _<_}
 use mathlib.Core.Bool.{Bool, true, _&&_, cond}
 use mathlib.Core.List.{List, [], _∷_}
+use mathlib.Core.Option.{Option, none, some}
 use mathlib.Core.Path.{_≡_, refl}
 use native.Mathlib.Omega.{arith}
 use lib.Dec.{eqb, leb}
@@ -10,32 +11,22 @@ use borrow.Author.Tests.{leb-true}
 use Rattle.model.proofs.Fits.{both}
 use Rattle.model.proofs.Rows.{row-rule}
 use Rattle.model.specs.Images.{wordFits, wordsFit, cellFits}
-use Rattle.model.specs.Instructions.{Operation, clearRegisters, clearCells, dumpRegisters, dumpCells, inputs, outputs, pushes, pops, skips, idles, writes, jumps, jumpsOn, first, second, third, Row, rows, rowOf}
+use Rattle.model.specs.Instructions.{Position, first, second, third, Row, rows, rowOf}
 use Rattle.model.specs.Parameters.{between}
+use Rattle.model.specs.Step.{argumentAt}
 use Rattle.model.specs.Words.{Cell, kindOf}
 use Rattle.model.specs.declared.Parameters.{Parameters}
-use Rattle.steps.proofs.Steps.{Named, NamesTarget}
+use Rattle.steps.proofs.Steps.{Named, targetOf, NamesTarget}
 
 -- How many places an operation needs for what it writes to.
-abbrev places : Operation → ℕ
-places clearRegisters = 0
-places clearCells = 0
-places dumpRegisters = 0
-places dumpCells = 0
-places inputs = 1
-places outputs = 0
-places pushes = 0
-places pops = 1
-places skips = 0
-places idles = 0
-places (writes first f) = 1
-places (writes second f) = 2
-places (writes third f) = 3
-places (jumps test) = 0
-places (jumpsOn b) = 0
+abbrev places : Option Position → ℕ
+places none = 0
+places (some first) = 1
+places (some second) = 2
+places (some third) = 3
 
-row-places : (n : ℕ) → places (rowOf n .operation) ≤ length (rowOf n .forms)
-row-places n = leb-true _ _ (row-rule (λ (r : Row). leb (places (r .operation)) (length (r .forms))) refl n)
+row-places : (n : ℕ) → places (targetOf (rowOf n .operation)) ≤ length (rowOf n .forms)
+row-places n = leb-true _ _ (row-rule (λ (r : Row). leb (places (targetOf (r .operation))) (length (r .forms))) refl n)
 
 none-fits : (k : ℕ) (a b c : Bool) → cond (eqb k 1) a (cond (eqb k 2) b (eqb k 3 && c)) ≡ true → 1 ≤ k
 none-fits zero a b c h = absurd (let z : _≡_ {A = ℕ} 0 1 = cc in omega arith)
@@ -54,7 +45,7 @@ words-named p (f ∷ fs) (w ∷ ws) (suc i) h l k = words-named p fs ws i (both 
 
 pub names-target : (p : Parameters) (c : Cell) → cellFits p c ≡ true → NamesTarget (rowOf (c .head) .operation) c
 unfolding cellFits
-names-target p c h = go (rowOf (c .head) .operation) (row-places (c .head))
+names-target p c h to e = go to (rw e at (row-places (c .head)))
   where
     fits : wordsFit p (rowOf (c .head) .forms) (c .first ∷ c .second ∷ c .third ∷ []) ≡ true
     fits = both (between 1 (length rows) (c .head)) _ h .1
@@ -62,19 +53,7 @@ names-target p c h = go (rowOf (c .head) .operation) (row-places (c .head))
     named : (i : ℕ) → i < length (rowOf (c .head) .forms) → i < 3 → Named (getD (c .first ∷ c .second ∷ c .third ∷ []) i 0)
     named i l k = words-named p (rowOf (c .head) .forms) (c .first ∷ c .second ∷ c .third ∷ []) i fits l k
 
-    go : (o : Operation) → places o ≤ length (rowOf (c .head) .forms) → NamesTarget o c
-    go clearRegisters l = tt
-    go clearCells l = tt
-    go dumpRegisters l = tt
-    go dumpCells l = tt
-    go inputs l = named 0 l (omega arith)
-    go outputs l = tt
-    go pushes l = tt
-    go pops l = named 0 l (omega arith)
-    go skips l = tt
-    go idles l = tt
-    go (writes first f) l = named 0 l (omega arith)
-    go (writes second f) l = named 1 l (omega arith)
-    go (writes third f) l = named 2 l (omega arith)
-    go (jumps test) l = tt
-    go (jumpsOn b) l = tt
+    go : (to : Position) → places (some to) ≤ length (rowOf (c .head) .forms) → Named (argumentAt to c)
+    go first l = named 0 l (omega arith)
+    go second l = named 1 l (omega arith)
+    go third l = named 2 l (omega arith)
