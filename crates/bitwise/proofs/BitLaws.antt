@@ -8,11 +8,14 @@ use lib.Dec.{T, ltb}
 use lib.IntN.{ℤ, pos, negsuc, negℤ, _+ℤ_, _-ℤ_}
 use lib.Signed.{mag, ltZ, leZ, shrZ}
 use borrow.Author.Tests.{lt-ltb, le-ltb, ltb-true, ltb-false, leb-true, leb-false}
-use mir.Syntax.{w64}
-use mir.Val.{toZ, ofZ}
-use mir.Facts.{toZ-pos, toZ-neg}
+use mir.Syntax.{w32, w64}
+use mir.Val.{SFits, toZ, ofZ}
+use mir.Facts.{toZ-ofZ, toZ-pos, toZ-neg}
 use Rattle.model.specs.Arithmetic.{bitsOf, signedOf, inverted, bitwise, shiftLeft, shiftRightSigned}
+use Rattle.model.proofs.Ranges.{bits-lt}
+use Rattle.cells.specs.Cells.{IsLimit, Within}
 use Rattle.cells.proofs.Integers.{sub-ge, sub-lt}
+use Rattle.cells.proofs.LimitLaws.{one, double}
 
 -- K BITS of a value, and back.
 pub bits-negative : (m : ℕ) (x : ℤ) → mag x < m → ltZ x (pos 0) ≡ true → x +ℤ pos (2 * m) ≡ pos (bitsOf m x)
@@ -70,11 +73,38 @@ inverted-is m (negsuc n) h =
     let d : suc n - 1 ≡ n = omega arith in
     sub-ge (suc n) 1 (omega arith) ∙ ap pos d ∙ rw e (signed-low m n h)
 
--- RNAND and RNOR: the inverse n of an operation's result r.
-pub inverse-of : (f : ℕ → ℕ → ℕ) (m : ℕ) (x y r n : ℤ) → f (bitsOf m x) (bitsOf m y) < 2 * m → r ≡ bitwise f m x y →
-    n ≡ signedOf m (inverted m (bitsOf m r)) → n ≡ bitwise (λ u v. inverted m (f u v)) m x y
-unfolding bitwise
-inverse-of f m x y r n h e i = i ∙ ap (λ u. signedOf m (inverted m u)) (ap (bitsOf m) e ∙ bits-signed m _ h)
+-- TWO VALUES x and y, read out of 32 bits, and an operation f that makes K bits of K bits.
+abbrev read : ℤ → ℤ
+read z = toZ w32 (ofZ w32 z)
+
+-- A law of `model` that f makes K bits of K bits.
+abbrev Keeps : (ℕ → ℕ → ℕ) → Type 0
+Keeps f = (k m : ℕ) → 1 ≤ m → 2 * m ≡ 2 ^ k → (u v : ℕ) → u < 2 * m → v < 2 * m → f u v < 2 * m
+
+abbrev Result : (f : ℕ → ℕ → ℕ) (m : ℕ) (x y r : ℤ) → Type 0
+Result f m x y r = (r ≡ bitwise f m x y) × Within m r
+
+-- What RNOT says of r and its inverse n.
+abbrev Inverse : (r n : ℤ) → Type 0
+Inverse r n = ((m : ℕ) → Within m r → n ≡ signedOf m (inverted m (bitsOf m r))) × ((m : ℕ) → Within m r → Within m n)
+
+module _ (f : ℕ → ℕ → ℕ) {x y : ℤ} (fx : SFits w32 x) (fy : SFits w32 y) where
+  -- f of the bits of both, read back as signed.
+  pub operation : {m u v : ℕ} {r : ℤ} → SFits w32 r → u ≡ bitsOf m (read x) → v ≡ bitsOf m (read y) →
+      (r ≡ signedOf m (f u v)) × Within m r → Result f m x y (read r)
+  unfolding bitwise
+  operation fr u v h = rw (toZ-ofZ fr) (rw (u, v, toZ-ofZ fx, toZ-ofZ fy) at h)
+
+  -- RNAND and RNOR: the inverse n of f's result r.
+  pub inverse : {m : ℕ} {r n : ℤ} → Keeps f → IsLimit m → Within m x → Within m y → SFits w32 r → SFits w32 n → Result f m (read x) (read y) r →
+      Inverse (read r) n → Result (λ u v. inverted m (f u v)) m x y (read n)
+  unfolding bitwise
+  inverse {m} {r} {n} keeps l hx hy fr fn h i =
+      let g = rw (toZ-ofZ fx, toZ-ofZ fy) at h in
+      let below = keeps (l .k) m (one l) (double l) (bitsOf m x) (bitsOf m y) (bits-lt m (one l) x hx) (bits-lt m (one l) y hy) in
+      let within : Within m (read r) = rw (toZ-ofZ fr) (g .1) in
+      let same : bitsOf m (read r) ≡ f (bitsOf m x) (bitsOf m y) = rw (toZ-ofZ fr) (ap (bitsOf m) (g .0) ∙ bits-signed m _ below) in
+      rw (toZ-ofZ fn) (i .0 m within ∙ ap (λ u. signedOf m (inverted m u)) same, i .1 m within)
 
 -- RSL: a shift by one is doubling, and the double modulo 2^K is brought back by at most once 2^K.
 pub shifted : (x : ℤ) → mag x < 2 ^ 62 → toZ w64 (ofZ w64 x * 2 % 2 ^ 64) ≡ x +ℤ x

@@ -1,33 +1,22 @@
 use borrow.Author.Needs.{needs}
-use mir.Facts.{toZ-ofZ}
-use mir.Syntax.{w32}
-use mir.Val.{SFits}
-use Rattle.model.specs.Arithmetic.{bitwise}
+use lib.Bits.{bitXor}
 use Rattle.model.proofs.Ranges.{xor-bits}
 use Rattle.cells.proofs.LimitLaws.{one, double}
+use Rattle.bitwise.proofs.BitLaws.{operation}
 use Rattle.bitwise.proofs.bits.rxor.Statement.{statement}
 use Rattle.bitwise.proofs.bits.rxor.Tie as tie
-
-bits-requires : tie.Need-bits-requires
-bits-requires c κs = search needs
-
-bits-requires-2 : tie.Need-bits-requires-2
-bits-requires-2 c κs = search needs
 
 signed-requires : tie.Need-signed-requires
 signed-requires c κs =
     let l = c .before .before .pre .0 in
-    (l, xor-bits (l .k) (c .before .before .args .m) (one l) (double l) (c .before .bits .result) (c .bits2 .result) (c .before .bits .ensures .1) (c .bits2 .ensures .1))
+    (l, xor-bits (l .k) _ (one l) (double l) _ _ (c .before .bits .ensures .1) (c .bits2 .ensures .1))
 
 returns : tie.Need-returns
-unfolding bitwise
 returns c =
-    let fx = c .before .before .before .fits .x in
-    let fy = c .before .before .before .fits .y in
-    let f : SFits w32 (c .signed .result) = record { sfits = c .signed .ok } in
-    let u = rw (toZ-ofZ fx) at (c .before .before .bits .ensures .0) in
-    let v = rw (toZ-ofZ fy) at (c .before .bits2 .ensures .0) in
-    rw (toZ-ofZ f) (rw (u, v) at (c .signed .ensures))
+    let s = c .before .before .before in
+    let u = c .before .before .bits .ensures .0 in
+    let v = c .before .bits2 .ensures .0 in
+    operation bitXor (s .fits .x) (s .fits .y) (record { sfits = c .signed .ok }) u v (c .signed .ensures)
 
 pub rxor-spec : {M : Type 1} → statement M
-rxor-spec = tie.close (tie.spec bits-requires bits-requires-2 signed-requires returns)
+rxor-spec = tie.close (tie.spec (λ c κs. search needs) (λ c κs. search needs) signed-requires returns)
