@@ -1,27 +1,14 @@
 use borrow.Author.Needs.{needs}
 use mathlib.Core.Bool.{xor}
-use mir.Facts.{toZ-ofZ}
-use Rattle.model.specs.Arithmetic.{logic}
+use Rattle.logic.proofs.Combined.{combine}
 use Rattle.logic.proofs.booleans.xor.Statement.{statement}
 use Rattle.logic.proofs.booleans.xor.Tie as tie
 
-is-true-requires : tie.Need-is-true-requires
-is-true-requires c κs = search needs
-
-is-true-requires-2 : tie.Need-is-true-requires-2
-is-true-requires-2 c κs = search needs
-
-combined-requires : tie.Need-combined-requires
-combined-requires c κs = search needs
-
 returns : tie.Need-returns
-unfolding logic xor
+unfolding xor
 returns c =
-    let fx = c .before .before .before .fits .x in
-    let fy = c .before .before .before .fits .y in
-    let x = rw (toZ-ofZ fx) at (c .before .before .is-true .ensures) in
-    let y = rw (toZ-ofZ fy) at (c .before .is-true2 .ensures) in
-    rw (x, y, toZ-ofZ fx, toZ-ofZ fy) at (c .combined .ensures)
+    let s = c .before .before .before in
+    combine (s .fits .x) (s .fits .y) xor (c .before .before .is-true .ensures) (c .before .is-true2 .ensures) (c .combined .ensures)
 
 pub xor-spec : {M : Type 1} → statement M
-xor-spec = tie.close (tie.spec is-true-requires is-true-requires-2 combined-requires returns)
+xor-spec = tie.close (tie.spec (λ c κs. search needs) (λ c κs. search needs) (λ c κs. search needs) returns)
