@@ -1,29 +1,17 @@
 use borrow.Author.Needs.{needs}
-use mir.Facts.{toZ-ofZ}
-use Rattle.cells.proofs.Integers.{cast-fits, cast-same, add-fits}
+use lib.IntN.{_+ℤ_}
+use Rattle.cells.proofs.Integers.{cast-fits, add-fits}
+use Rattle.arithmetic.proofs.Settled.{wide-fits, wide}
 use Rattle.arithmetic.proofs.add.Statement.{statement}
 use Rattle.arithmetic.proofs.add.Tie as tie
 
-cast-settle-wide : tie.Need-cast-settle-wide
-cast-settle-wide c = cast-fits (c .fits .x)
-
-cast-settle-wide-2 : tie.Need-cast-settle-wide-2
-cast-settle-wide-2 c = cast-fits (c .fits .y)
-
 add-settle-wide : tie.Need-add-settle-wide
-add-settle-wide c = rw (cast-same (c .fits .x), cast-same (c .fits .y)) (add-fits (c .fits .x) (c .fits .y))
-
-settle-wide-requires : tie.Need-settle-wide-requires
-settle-wide-requires c κs = search needs
+add-settle-wide c = wide-fits _+ℤ_ (c .fits .x) (c .fits .y) (add-fits (c .fits .x) (c .fits .y))
 
 returns : tie.Need-returns
 returns c =
-    let fx = c .before .fits .x in
-    let fy = c .before .fits .y in
-    let f = add-fits fx fy in
-    rw (cast-same fx, cast-same fy, toZ-ofZ f) at (c .settle-wide .ensures)
+    let s = c .before in
+    wide _+ℤ_ (s .fits .x) (s .fits .y) (add-fits (s .fits .x) (s .fits .y)) (c .settle-wide .ensures)
 
 pub add-spec : {M : Type 1} → statement M
-add-spec =
-    tie.close
-    (tie.spec cast-settle-wide cast-settle-wide-2 add-settle-wide settle-wide-requires returns)
+add-spec = tie.close (tie.spec (λ c. cast-fits (c .fits .x)) (λ c. cast-fits (c .fits .y)) add-settle-wide (λ c κs. search needs) returns)

@@ -1,29 +1,17 @@
 use borrow.Author.Needs.{needs}
-use mir.Facts.{toZ-ofZ}
-use Rattle.cells.proofs.Integers.{cast-fits, cast-same, minus-fits}
+use lib.IntN.{_-ℤ_}
+use Rattle.cells.proofs.Integers.{cast-fits, minus-fits}
+use Rattle.arithmetic.proofs.Settled.{wide-fits, wide}
 use Rattle.arithmetic.proofs.sub.Statement.{statement}
 use Rattle.arithmetic.proofs.sub.Tie as tie
 
-cast-settle-wide : tie.Need-cast-settle-wide
-cast-settle-wide c = cast-fits (c .fits .x)
-
-cast-settle-wide-2 : tie.Need-cast-settle-wide-2
-cast-settle-wide-2 c = cast-fits (c .fits .y)
-
 sub-settle-wide : tie.Need-sub-settle-wide
-sub-settle-wide c = rw (cast-same (c .fits .x), cast-same (c .fits .y)) (minus-fits (c .fits .x) (c .fits .y))
-
-settle-wide-requires : tie.Need-settle-wide-requires
-settle-wide-requires c κs = search needs
+sub-settle-wide c = wide-fits _-ℤ_ (c .fits .x) (c .fits .y) (minus-fits (c .fits .x) (c .fits .y))
 
 returns : tie.Need-returns
 returns c =
-    let fx = c .before .fits .x in
-    let fy = c .before .fits .y in
-    let f = minus-fits fx fy in
-    rw (cast-same fx, cast-same fy, toZ-ofZ f) at (c .settle-wide .ensures)
+    let s = c .before in
+    wide _-ℤ_ (s .fits .x) (s .fits .y) (minus-fits (s .fits .x) (s .fits .y)) (c .settle-wide .ensures)
 
 pub sub-spec : {M : Type 1} → statement M
-sub-spec =
-    tie.close
-    (tie.spec cast-settle-wide cast-settle-wide-2 sub-settle-wide settle-wide-requires returns)
+sub-spec = tie.close (tie.spec (λ c. cast-fits (c .fits .x)) (λ c. cast-fits (c .fits .y)) sub-settle-wide (λ c κs. search needs) returns)
