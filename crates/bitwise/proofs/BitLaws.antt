@@ -81,6 +81,9 @@ read z = toZ w32 (ofZ w32 z)
 abbrev Keeps : (ℕ → ℕ → ℕ) → Type 0
 Keeps f = (k m : ℕ) → 1 ≤ m → 2 * m ≡ 2 ^ k → (u v : ℕ) → u < 2 * m → v < 2 * m → f u v < 2 * m
 
+pub kept : {f : ℕ → ℕ → ℕ} → Keeps f → {m : ℕ} → IsLimit m → {u v : ℕ} → u < 2 * m → v < 2 * m → IsLimit m × (f u v < 2 * m)
+kept keeps l hu hv = (l, keeps (l .k) _ (one l) (double l) _ _ hu hv)
+
 abbrev Result : (f : ℕ → ℕ → ℕ) (m : ℕ) (x y r : ℤ) → Type 0
 Result f m x y r = (r ≡ bitwise f m x y) × Within m r
 
@@ -101,7 +104,7 @@ module _ (f : ℕ → ℕ → ℕ) {x y : ℤ} (fx : SFits w32 x) (fy : SFits w3
   unfolding bitwise
   inverse {m} {r} {n} keeps l hx hy fr fn h i =
       let g = rw (toZ-ofZ fx, toZ-ofZ fy) at h in
-      let below = keeps (l .k) m (one l) (double l) (bitsOf m x) (bitsOf m y) (bits-lt m (one l) x hx) (bits-lt m (one l) y hy) in
+      let below = kept keeps l (bits-lt m (one l) x hx) (bits-lt m (one l) y hy) .1 in
       let within : Within m (read r) = rw (toZ-ofZ fr) (g .1) in
       let same : bitsOf m (read r) ≡ f (bitsOf m x) (bitsOf m y) = rw (toZ-ofZ fr) (ap (bitsOf m) (g .0) ∙ bits-signed m _ below) in
       rw (toZ-ofZ fn) (i .0 m within ∙ ap (λ u. signedOf m (inverted m u)) same, i .1 m within)

@@ -35,9 +35,6 @@ cast-result c = cast-fits (c .before .fits .x)
 mul-result : tie.Need-mul-result
 mul-result c = record { fits = omega (arith, at-most (c .before .pre .0)) }
 
-cast-result-2 : tie.Need-cast-result-2
-cast-result-2 c = search needs
-
 add-result : tie.Need-add-result
 add-result c = rw (sum c) (fits (c .before))
 
@@ -56,12 +53,4 @@ returns-2 c = rw (toZ-ofZ (c .before .fits .x)) (ap natAbs (plain c), rw (ap nat
 pub bits-spec : {M : Type 1} → statement M
 bits-spec =
     tie.close
-    (tie.spec
-    cast-result
-    mul-result
-    cast-result-2
-    add-result
-    cast-result-3
-    returns
-    cast-result-4
-    returns-2)
+    (tie.spec cast-result mul-result (λ c. search needs) add-result cast-result-3 returns cast-result-4 returns-2)

@@ -54,17 +54,8 @@ above : (c : tie.Then2) → toZ w64 (ofZ w64 (c .before .before .double .result)
 above c =
     rw (twice (c .before .before), full (c .before .before .before)) (double-above (c .before .before .before .args .m) (c .before .before .before .args .x) (c .before .before .before .pre .1) (rw (twice (c .before .before), top (c .before .before .before)) at (c .if2 .taken)))
 
-double-requires : tie.Need-double-requires
-double-requires c κs = search needs
-
-cast-top : tie.Need-cast-top
-cast-top c = search needs
-
 mul-full : tie.Need-mul-full
 mul-full c = record { fits = omega (arith, at-most (c .before .pre .0)) }
-
-cast-full : tie.Need-cast-full
-cast-full c = search needs
 
 sub-if1 : tie.Need-sub-if1
 sub-if1 c = minus-fits (c .before)
@@ -106,17 +97,5 @@ returns-3 c =
 pub rsl-spec : {M : Type 1} → statement M
 rsl-spec =
     tie.close
-    (tie.spec
-    double-requires
-    cast-top
-    mul-full
-    cast-full
-    sub-if1
-    add-result
-    cast-result
-    returns
-    sub-result
-    cast-result-2
-    returns-2
-    cast-result-3
-    returns-3)
+    (tie.spec (λ c κs. search needs) (λ c. search needs) mul-full (λ c. search needs) sub-if1 add-result cast-result
+    returns sub-result cast-result-2 returns-2 cast-result-3 returns-3)

@@ -6,12 +6,6 @@ use Rattle.model.specs.Arithmetic.{shiftRight}
 use Rattle.bitwise.proofs.bits.rsr.Statement.{statement}
 use Rattle.bitwise.proofs.bits.rsr.Tie as tie
 
-bits-requires : tie.Need-bits-requires
-bits-requires c κs = search needs
-
-signed-requires : tie.Need-signed-requires
-signed-requires c κs = search needs
-
 returns : tie.Need-returns
 unfolding shiftRight
 returns c =
@@ -20,4 +14,4 @@ returns c =
     rw (toZ-ofZ f) (rw u at (c .signed .ensures))
 
 pub rsr-spec : {M : Type 1} → statement M
-rsr-spec = tie.close (tie.spec bits-requires signed-requires returns)
+rsr-spec = tie.close (tie.spec (λ c κs. search needs) (λ c κs. search needs) returns)

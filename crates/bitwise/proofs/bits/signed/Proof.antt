@@ -32,14 +32,8 @@ difference c =
     rw (toZ-pos w64 {n = c .before .args .u} (omega arith), toZ-pos w64 {n = 2 * c .before .args .m} (omega (arith, at-most (c .before .pre .0))))
     (signed-high (c .before .args .m) (c .before .args .u) (c .if1 .left) (c .before .pre .1))
 
-cast-result-2 : tie.Need-cast-result-2
-cast-result-2 c = search needs
-
 mul-result : tie.Need-mul-result
 mul-result c = record { fits = omega (arith, at-most (c .before .pre .0)) }
-
-cast-result-3 : tie.Need-cast-result-3
-cast-result-3 c = search needs
 
 sub-result : tie.Need-sub-result
 sub-result c = rw (difference c) (widen (fits (c .before)))
@@ -57,12 +51,5 @@ returns-2 c =
 pub signed-spec : {M : Type 1} → statement M
 signed-spec =
     tie.close
-    (tie.spec
-    cast-result
-    returns
-    cast-result-2
-    mul-result
-    cast-result-3
-    sub-result
-    cast-result-4
+    (tie.spec cast-result returns (λ c. search needs) mul-result (λ c. search needs) sub-result cast-result-4
     returns-2)
