@@ -18,15 +18,6 @@ second c =
     let fy = c .before .before .before .fits .y in
     simp toZ-ofZ at (c .is-boolean2 .ensures)
 
-is-boolean-requires : tie.Need-is-boolean-requires
-is-boolean-requires c κs = search needs
-
-is-boolean-requires-2 : tie.Need-is-boolean-requires-2
-is-boolean-requires-2 c κs = search needs
-
-boolean-requires : tie.Need-boolean-requires
-boolean-requires c κs = search needs
-
 returns : tie.Need-returns
 returns c =
     let g : SFits w32 (c .boolean .result) = record { sfits = c .boolean .ok } in
@@ -41,10 +32,4 @@ returns-3 c = rw (rw (toZ-ofZ (c .before .before .fits .x)) at (sym (c .before .
 pub combined-spec : {M : Type 1} → statement M
 combined-spec =
     tie.close
-    (tie.spec
-    is-boolean-requires
-    is-boolean-requires-2
-    boolean-requires
-    returns
-    returns-2
-    returns-3)
+    (tie.spec (λ c κs. search needs) (λ c κs. search needs) (λ c κs. search needs) returns returns-2 returns-3)

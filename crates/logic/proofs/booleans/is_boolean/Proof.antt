@@ -6,16 +6,10 @@ use Rattle.model.specs.Parameters.{isTrue}
 use Rattle.logic.proofs.booleans.is_boolean.Statement.{statement}
 use Rattle.logic.proofs.booleans.is_boolean.Tie as tie
 
-equal-requires : tie.Need-equal-requires
-equal-requires c κs = search needs
-
 returns : tie.Need-returns
 returns c =
     let h : isTrue (c .before .before .args .x) ≡ true = rw (toZ-ofZ (c .before .before .fits .x)) at (sym (c .before .equal .ensures) ∙ c .if1 .taken) in
     rw h
-
-equal-requires-2 : tie.Need-equal-requires-2
-equal-requires-2 c κs = search needs
 
 returns-2 : tie.Need-returns-2
 returns-2 c =
@@ -24,4 +18,4 @@ returns-2 c =
     rw h (rw (toZ-ofZ f) at (c .equal2 .ensures))
 
 pub is-boolean-spec : {M : Type 1} → statement M
-is-boolean-spec = tie.close (tie.spec equal-requires returns equal-requires-2 returns-2)
+is-boolean-spec = tie.close (tie.spec (λ c κs. search needs) returns (λ c κs. search needs) returns-2)

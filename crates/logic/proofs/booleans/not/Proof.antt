@@ -7,15 +7,6 @@ use Rattle.model.specs.Arithmetic.{negation}
 use Rattle.logic.proofs.booleans.not.Statement.{statement}
 use Rattle.logic.proofs.booleans.not.Tie as tie
 
-is-boolean-requires : tie.Need-is-boolean-requires
-is-boolean-requires c κs = search needs
-
-is-true-requires : tie.Need-is-true-requires
-is-true-requires c κs = search needs
-
-boolean-requires : tie.Need-boolean-requires
-boolean-requires c κs = search needs
-
 returns : tie.Need-returns
 unfolding negation
 returns c =
@@ -30,5 +21,4 @@ unfolding negation
 returns-2 c = rw (rw (toZ-ofZ (c .before .before .fits .x)) at (sym (c .before .is-boolean .ensures) ∙ c .if1 .left))
 
 pub not-spec : {M : Type 1} → statement M
-not-spec =
-    tie.close (tie.spec is-boolean-requires is-true-requires boolean-requires returns returns-2)
+not-spec = tie.close (tie.spec (λ c κs. search needs) (λ c κs. search needs) (λ c κs. search needs) returns returns-2)
