@@ -10,9 +10,6 @@ cast-z c = cast-fits (c .fits .x)
 sub-settle-wide : tie.Need-sub-settle-wide
 sub-settle-wide c = rw (cast-same (c .before .fits .x)) (wide-minus-fits (c .before .args .x) (c .before .fits .x))
 
-settle-wide-requires : tie.Need-settle-wide-requires
-settle-wide-requires c κs = search needs
-
 returns : tie.Need-returns
 returns c =
     let x = c .before .before .args .x in
@@ -20,9 +17,6 @@ returns c =
     let g = wide-minus-fits x f in
     let e = size-negative x (rw (cast-same f) at (c .before .if1 .taken)) in
     rw (cast-same f, toZ-ofZ g, e) at (c .settle-wide .ensures)
-
-settle-wide-requires-2 : tie.Need-settle-wide-requires-2
-settle-wide-requires-2 c κs = search needs
 
 returns-2 : tie.Need-returns-2
 returns-2 c =
@@ -32,6 +26,4 @@ returns-2 c =
     rw (cast-same f, e) at (c .settle-wide2 .ensures)
 
 pub abs-spec : {M : Type 1} → statement M
-abs-spec =
-    tie.close
-    (tie.spec cast-z sub-settle-wide settle-wide-requires returns settle-wide-requires-2 returns-2)
+abs-spec = tie.close (tie.spec cast-z sub-settle-wide (λ c κs. search needs) returns (λ c κs. search needs) returns-2)

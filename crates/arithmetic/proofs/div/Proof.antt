@@ -20,9 +20,6 @@ returns c = (rw (is-zero (c .before .fits .y) (c .if1 .taken)), omega (arith, at
 div-settle : tie.Need-div-settle
 div-settle c = rw (toZ-ofZ (c .before .fits .x), toZ-ofZ (c .before .fits .y)) (omega (arith, c .if1 .left), fits c)
 
-settle-requires : tie.Need-settle-requires
-settle-requires c κs = search needs
-
 returns-2 : tie.Need-returns-2
 unfolding divide
 returns-2 c =
@@ -32,4 +29,4 @@ returns-2 c =
     rw (not-zero fy (c .before .if1 .left)) (rw (toZ-ofZ fx, toZ-ofZ fy, toZ-ofZ g) at (c .settle .ensures))
 
 pub div-spec : {M : Type 1} → statement M
-div-spec = tie.close (tie.spec returns div-settle settle-requires returns-2)
+div-spec = tie.close (tie.spec returns div-settle (λ c κs. search needs) returns-2)

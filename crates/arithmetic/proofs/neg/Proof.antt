@@ -15,9 +15,6 @@ fits c = record { sfits = omega (arith, mag-neg (c .args .x), c .pre .1, at-most
 sub-settle : tie.Need-sub-settle
 sub-settle c = rw (toZ-ofZ (c .fits .x)) (zero-minus-fits (c .args .x) (fits c))
 
-settle-requires : tie.Need-settle-requires
-settle-requires c κs = search needs
-
 returns : tie.Need-returns
 returns c =
     let f = c .before .fits .x in
@@ -25,4 +22,4 @@ returns c =
     rw (toZ-ofZ f, toZ-ofZ g, zero-minus (c .before .args .x)) at (c .settle .ensures)
 
 pub neg-spec : {M : Type 1} → statement M
-neg-spec = tie.close (tie.spec sub-settle settle-requires returns)
+neg-spec = tie.close (tie.spec sub-settle (λ c κs. search needs) returns)

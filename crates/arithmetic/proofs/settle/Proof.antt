@@ -5,9 +5,6 @@ use Rattle.arithmetic.proofs.Settled.{is-in, is-out}
 use Rattle.arithmetic.proofs.settle.Statement.{statement}
 use Rattle.arithmetic.proofs.settle.Tie as tie
 
-in-range-requires : tie.Need-in-range-requires
-in-range-requires c κs = search needs
-
 returns : tie.Need-returns
 returns c = rw (toZ-ofZ (c .before .before .fits .z)) (is-in (c .before .before .pre) (c .before .before .args .z) (rw (toZ-ofZ (c .before .before .fits .z)) at (sym (c .before .in-range .ensures) ∙ c .if1 .taken)))
 
@@ -15,4 +12,4 @@ returns-2 : tie.Need-returns-2
 returns-2 c = is-out (c .before .before .pre) (c .before .before .args .z) (rw (toZ-ofZ (c .before .before .fits .z)) at (sym (c .before .in-range .ensures) ∙ c .if1 .left))
 
 pub settle-spec : {M : Type 1} → statement M
-settle-spec = tie.close (tie.spec in-range-requires returns returns-2)
+settle-spec = tie.close (tie.spec (λ c κs. search needs) returns returns-2)

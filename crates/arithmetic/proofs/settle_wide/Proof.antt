@@ -17,9 +17,6 @@ inside c = rw (toZ-ofZ (c .before .before .fits .z)) at (sym (c .before .in-rang
 fits : (c : tie.Then1) → SFits w32 (c .before .before .args .z)
 fits c = record { sfits = omega (arith, is-in (c .before .before .pre) (c .before .before .args .z) (inside c) .1, at-most (c .before .before .pre)) }
 
-in-range-wide-requires : tie.Need-in-range-wide-requires
-in-range-wide-requires c κs = search needs
-
 cast-t4 : tie.Need-cast-t4
 cast-t4 c = rw (toZ-ofZ (c .before .before .fits .z)) (fits c)
 
@@ -33,4 +30,4 @@ returns-2 : tie.Need-returns-2
 returns-2 c = is-out (c .before .before .pre) (c .before .before .args .z) (rw (toZ-ofZ (c .before .before .fits .z)) at (sym (c .before .in-range-wide .ensures) ∙ c .if1 .left))
 
 pub settle-wide-spec : {M : Type 1} → statement M
-settle-wide-spec = tie.close (tie.spec in-range-wide-requires cast-t4 returns returns-2)
+settle-wide-spec = tie.close (tie.spec (λ c κs. search needs) cast-t4 returns returns-2)
