@@ -8,7 +8,7 @@ use native.Mathlib.Numerals.{add-one}
 use native.Mathlib.Omega.{arith}
 use lib.Arith.{lt-of-le-ne}
 use lib.ListN.{length, getD, drop, drop-of-length-le}
-use lib.Seq.{drop-cons, drop-drop, append-snoc}
+use lib.Seq.{drop-cons, append-snoc}
 use borrow.Author.Tests.{ne-eqb, eq-eqb}
 use Rattle.model.specs.Numbers.{isBlank}
 use Rattle.model.specs.Load.{keep, isComment, isSeparator, linesFrom, lines, wordsFrom, words}
@@ -16,7 +16,7 @@ use Rattle.model.specs.Step.{blanksOf, tokenOf}
 use Rattle.text.specs.Parts.{part}
 use Rattle.text.specs.Lines.{NoLineFeed}
 use Rattle.text.specs.Words.{Skipped, WordEnd, NextWord}
-use Rattle.text.specs.Tokens.{TokenEnd, NextToken}
+use Rattle.text.specs.Tokens.{TokenEnd}
 use Rattle.text.proofs.Among.{among-fails}
 use Rattle.text.proofs.Parts.{part-empty, part-more, part-first, part-length}
 
@@ -53,10 +53,6 @@ pub token-found : (t : List ℕ) (a i : ℕ) → a ≤ i → i ≤ length t → 
 token-found t a i l h e n =
     let k : tokenOf (drop a t) ≡ part a i t = e ∙ rw (n, append-nil) in
     record { low = l; high = h; place = omega (arith, ap length k, part-length a i t h); token = sym k }
-
--- The token is that of the definition of IN.
-pub token-start : {t : List ℕ} {p start end : ℕ} → NextToken t p start end → drop start t ≡ drop (blanksOf (drop p t)) (drop p t)
-token-start {t} {p} n = ap (λ (k : ℕ). drop k t) (n .blanks) ∙ sym (drop-drop (blanksOf (drop p t)) p t)
 
 -- WORDS
 word-stop : (w : List ℕ) (b : ℕ) (s : List ℕ) → (isComment b || isSeparator b) ≡ true → wordsFrom w (b ∷ s) ≡ keep w (words (b ∷ s))

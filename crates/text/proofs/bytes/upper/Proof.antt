@@ -6,9 +6,6 @@ use Rattle.model.specs.Numbers.{upper}
 use Rattle.text.proofs.bytes.upper.Statement.{statement}
 use Rattle.text.proofs.bytes.upper.Tie as tie
 
-sub-result : tie.Need-sub-result
-sub-result c = search needs
-
 returns : tie.Need-returns
 returns c = let b = c .before .before .args .b in simp (upper, le-leb 97 b (c .before .if1 .left), le-leb b 122 (omega arith))
 
@@ -19,4 +16,4 @@ returns-3 : tie.Need-returns-3
 returns-3 c = let b = c .before .before .args .b in simp (upper, le-leb 97 b (c .before .if1 .left), lt-leb b 122 (c .if2 .left))
 
 pub upper-spec : {M : Type 1} → statement M
-upper-spec = tie.close (tie.spec sub-result returns returns-2 returns-3)
+upper-spec = tie.close (tie.spec (λ c. search needs) returns returns-2 returns-3)

@@ -16,18 +16,6 @@ Inv-loop t at₀ count₀ at count = (at ≤ length t) × (count ≤ at) × (len
 abbrev μ-loop : tie.MeasureT-loop
 μ-loop t at₀ count₀ at count = length t - at
 
-loop-holds : tie.Need-loop-holds Inv-loop μ-loop
-loop-holds c = search needs
-
-next-line-requires : tie.Need-next-line-requires Inv-loop μ-loop
-next-line-requires c κs = search needs
-
-add-count : tie.Need-add-count Inv-loop μ-loop
-add-count c = search needs
-
-loop-less : tie.Need-loop-less Inv-loop μ-loop
-loop-less c = search needs
-
 loop-again : tie.Need-loop-again Inv-loop μ-loop
 loop-again c = omega (arith, ap length (c .next-line .ensures .same))
 
@@ -35,4 +23,7 @@ returns : tie.Need-returns Inv-loop μ-loop
 returns c = omega (arith, ap length (no-lines (now (c .before .before .before .args .t)) (c .before .loop .at) (c .loop-test .left)))
 
 pub count-lines-spec : {M : Type 1} → statement M
-count-lines-spec = tie.close (tie.spec Inv-loop μ-loop loop-holds next-line-requires add-count loop-less loop-again returns)
+count-lines-spec =
+    tie.close
+    (tie.spec Inv-loop μ-loop (λ c. search needs) (λ c κs. search needs) (λ c. search needs) (λ c. search needs)
+    loop-again returns)

@@ -17,20 +17,11 @@ Inv-loop t p i₀ i = (p ≤ i) × (i ≤ length t) × (lines (drop p t) ≡ lin
 abbrev μ-loop : tie.MeasureT-loop
 μ-loop t p i₀ i = length t - i
 
-skip-blocks-requires : tie.Need-skip-blocks-requires Inv-loop μ-loop
-skip-blocks-requires c κs = omega arith
-
 loop-holds : tie.Need-loop-holds Inv-loop μ-loop
 loop-holds c =
     let a = c .before .before .args in
     let from = c .skip-blocks .ensures in
     (from .0, from .1, line-begins (now (a .t)) (a .p) _ (from .0) (from .1) (from .2))
-
-shared-slice-read-if1 : tie.Need-shared-slice-read-if1 Inv-loop μ-loop
-shared-slice-read-if1 c = search needs
-
-add-t8 : tie.Need-add-t8 Inv-loop μ-loop
-add-t8 c = search needs
 
 returns : tie.Need-returns Inv-loop μ-loop
 returns c =
@@ -38,12 +29,6 @@ returns c =
     let inv = at .before .loop .inv in
     let same = inv .2 ∙ line-ends (now (at .before .before .before .before .args .t)) (at .before .loop .i) (at .loop-test .taken) _ (c .if1 .taken) in
     record { low = inv .0; high = inv .1; more = omega arith; within = omega arith; same = same }
-
-add-i : tie.Need-add-i Inv-loop μ-loop
-add-i c = search needs
-
-loop-less : tie.Need-loop-less Inv-loop μ-loop
-loop-less c = search needs
 
 loop-again : tie.Need-loop-again Inv-loop μ-loop
 loop-again c =
@@ -62,15 +47,5 @@ returns-2 c =
 pub next-line-spec : {M : Type 1} → statement M
 next-line-spec =
     tie.close
-    (tie.spec
-    Inv-loop
-    μ-loop
-    skip-blocks-requires
-    loop-holds
-    shared-slice-read-if1
-    add-t8
-    returns
-    add-i
-    loop-less
-    loop-again
-    returns-2)
+    (tie.spec Inv-loop μ-loop (λ c κs. omega arith) loop-holds (λ c. search needs) (λ c. search needs) returns
+    (λ c. search needs) (λ c. search needs) loop-again returns-2)

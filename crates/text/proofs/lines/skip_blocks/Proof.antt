@@ -19,20 +19,11 @@ abbrev μ-loop : tie.MeasureT-loop
 loop-holds : tie.Need-loop-holds Inv-loop μ-loop
 loop-holds c = (omega arith, c .before .pre, λ j l h. absurd (omega arith))
 
-sub-loop : tie.Need-sub-loop Inv-loop μ-loop
-sub-loop c = search needs
-
 is-inside-requires : tie.Need-is-inside-requires Inv-loop μ-loop
 is-inside-requires c κs = omega (arith, c .before .loop .inv .1)
 
 returns : tie.Need-returns Inv-loop μ-loop
 returns c = c .before .before .before .loop .inv
-
-add-i : tie.Need-add-i Inv-loop μ-loop
-add-i c = search needs
-
-loop-less : tie.Need-loop-less Inv-loop μ-loop
-loop-less c = search needs
 
 loop-again : tie.Need-loop-again Inv-loop μ-loop
 loop-again c =
@@ -48,14 +39,5 @@ returns-2 c = c .before .loop .inv
 pub skip-blocks-spec : {M : Type 1} → statement M
 skip-blocks-spec =
     tie.close
-    (tie.spec
-    Inv-loop
-    μ-loop
-    loop-holds
-    sub-loop
-    is-inside-requires
-    returns
-    add-i
-    loop-less
-    loop-again
-    returns-2)
+    (tie.spec Inv-loop μ-loop loop-holds (λ c. search needs) is-inside-requires returns (λ c. search needs)
+    (λ c. search needs) loop-again returns-2)

@@ -3,12 +3,6 @@ use borrow.Author.Needs.{needs}
 use Rattle.text.proofs.words.ends_word.Statement.{statement}
 use Rattle.text.proofs.words.ends_word.Tie as tie
 
-is-comment-requires : tie.Need-is-comment-requires
-is-comment-requires c κs = search needs
-
-is-separator-requires : tie.Need-is-separator-requires
-is-separator-requires c κs = search needs
-
 returns : tie.Need-returns
 returns c = simp (← (c .before .is-comment .ensures), c .if1 .taken)
 
@@ -16,4 +10,4 @@ returns-2 : tie.Need-returns-2
 returns-2 c = simp (← (c .before .before .is-comment .ensures), c .before .if1 .left) (c .is-separator .ensures)
 
 pub ends-word-spec : {M : Type 1} → statement M
-ends-word-spec = tie.close (tie.spec is-comment-requires is-separator-requires returns returns-2)
+ends-word-spec = tie.close (tie.spec (λ c κs. search needs) (λ c κs. search needs) returns returns-2)

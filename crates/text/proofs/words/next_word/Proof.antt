@@ -5,12 +5,6 @@ use Rattle.text.proofs.Walks.{no-word}
 use Rattle.text.proofs.words.next_word.Statement.{statement}
 use Rattle.text.proofs.words.next_word.Tie as tie
 
-skip-separators-requires : tie.Need-skip-separators-requires
-skip-separators-requires c κs = search needs
-
-word-end-requires : tie.Need-word-end-requires
-word-end-requires c κs = search needs
-
 returns : tie.Need-returns
 returns c =
     let skipped = c .before .skip-separators .ensures in
@@ -18,4 +12,4 @@ returns c =
     record { low = skipped .low; ordered = word .low; high = word .high; same = skipped .same ∙ word .same; none = no-word skipped word }
 
 pub next-word-spec : {M : Type 1} → statement M
-next-word-spec = tie.close (tie.spec skip-separators-requires word-end-requires returns)
+next-word-spec = tie.close (tie.spec (λ c κs. search needs) (λ c κs. search needs) returns)
