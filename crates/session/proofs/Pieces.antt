@@ -8,6 +8,9 @@ use lib.IntN.{ℤ, pos}
 use lib.ListN.{length, take, drop, set, getD, length-append, length-drop, drop-of-length-le}
 use lib.Seq.{sets, sets-eq, length-sets, take-suc, drop-drop}
 use lib.Signed.{mag}
+use mir.Facts.{toZ-ofZ}
+use mir.Syntax.{w32}
+use mir.Val.{SFits, toZ, ofZ}
 use borrow.Author.Tests.{le-ltb}
 use borrow.Rule.Slice.PartAt.{part-to-end}
 use borrow.Rule.Slice.PartMut.{putMid}
@@ -77,6 +80,19 @@ spelled-fits z old h e =
     let f = rw (le-ltb (length old) 11 h) at e in
     let n = ap (λ (x : Spelled). x .reply .count) f in
     (n, ap (λ (x : Spelled). x .bytes) f ∙ rw n)
+
+-- The decimal of z is put into the rest of the buffer, with room for a byte behind it.
+abbrev pub DecimalPut : (z : ℤ) (out : List ℕ) (at : ℕ) (r : DecimalReply) (rest : List ℕ) → Type 0
+DecimalPut z out at r rest = (r .count ≤ 11) × Put out at (decimal z) (putMid at (length out - at) out rest) (at + r .count)
+
+pub decimal-put : {z : ℤ} {r : DecimalReply} {rest : List ℕ} (out : List ℕ) (at : ℕ) → SFits w32 z → at + 12 ≤ length out →
+    written r rest ≡ spelled (toZ w32 (ofZ w32 z)) (take (length out - at) (drop at out)) → DecimalPut z out at r rest
+decimal-put {z} {r} {rest} out at f h e =
+    let l : 11 ≤ length (take (length out - at) (drop at out)) = rw (part-to-end, length-drop) (omega arith) in
+    let d = spelled-fits z (take (length out - at) (drop at out)) l (rw (toZ-ofZ f) at e) in
+    let k = decimal-length z (f .sfits) in
+    let room : at + length (decimal z) ≤ length out = omega arith in
+    (omega (arith, d .0, k), record { room = room; end = ap (λ (n : ℕ). at + n) (d .0); bytes = sets-rest out (decimal z) rest at (r .count) room (d .0) (d .1) })
 
 -- LENGTHS
 pub value-line-length : (z : ℤ) → mag z < 2 ^ 31 → length (valueLine z) ≤ 12

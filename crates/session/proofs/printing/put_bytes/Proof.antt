@@ -19,20 +19,11 @@ abbrev μ-loop : tie.MeasureT-loop
 loop-holds : tie.Need-loop-holds Inv-loop μ-loop
 loop-holds c = (omega arith, refl)
 
-shared-slice-read-out : tie.Need-shared-slice-read-out Inv-loop μ-loop
-shared-slice-read-out c = search needs
-
 add-out : tie.Need-add-out Inv-loop μ-loop
 add-out c = record { fits = omega (arith, c .before .before .before .pre) }
 
 slice-write-out : tie.Need-slice-write-out Inv-loop μ-loop
 slice-write-out c = rw (c .before .before .loop .inv .1, length-sets) (omega (arith, c .before .before .before .pre))
-
-add-i : tie.Need-add-i Inv-loop μ-loop
-add-i c = search needs
-
-loop-less : tie.Need-loop-less Inv-loop μ-loop
-loop-less c = omega arith
 
 loop-again : tie.Need-loop-again Inv-loop μ-loop
 loop-again c =
@@ -56,16 +47,5 @@ returns c =
 pub put-bytes-spec : {M : Type 1} → statement M
 put-bytes-spec =
     tie.close
-    (tie.spec
-    Inv-loop
-    μ-loop
-    loop-holds
-    shared-slice-read-out
-    add-out
-    slice-write-out
-    add-i
-    loop-less
-    loop-again
-    add-result
-    same-length
-    returns)
+    (tie.spec Inv-loop μ-loop loop-holds (λ c. search needs) add-out slice-write-out (λ c. search needs)
+    (λ c. omega arith) loop-again add-result same-length returns)

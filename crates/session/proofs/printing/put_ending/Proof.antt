@@ -6,9 +6,6 @@ use Rattle.session.proofs.Pieces.{field-length, word-length, put-then, 
 use Rattle.session.proofs.printing.put_ending.Statement.{statement}
 use Rattle.session.proofs.printing.put_ending.Tie as tie
 
-put-ending-word-requires : tie.Need-put-ending-word-requires
-put-ending-word-requires c κs = search needs
-
 put-field-requires : tie.Need-put-field-requires
 put-field-requires c κs =
     let start = c .before .before .before .before .before .before in
@@ -42,9 +39,6 @@ put-field-requires-3 c κs =
       field-length (start .args .iar) (omega arith),
     )
 
-slice-aggregate-put-bytes : tie.Need-slice-aggregate-put-bytes
-slice-aggregate-put-bytes c = search needs
-
 put-bytes-requires : tie.Need-put-bytes-requires
 put-bytes-requires c κs =
     let start = c .before .before .before .before .before .before .before .before .before .before .before .before .before .before .before .before .before .before .before in
@@ -67,9 +61,6 @@ put-bytes-requires c κs =
       field-length (start .args .spent) (start .fits .spent .fits),
     )
 
-same-length : tie.Need-same-length
-same-length c = search needs
-
 returns : tie.Need-returns
 returns c =
     put-then
@@ -84,12 +75,5 @@ returns c =
 pub put-ending-spec : {M : Type 1} → statement M
 put-ending-spec =
     tie.close
-    (tie.spec
-    put-ending-word-requires
-    put-field-requires
-    put-field-requires-2
-    put-field-requires-3
-    slice-aggregate-put-bytes
-    put-bytes-requires
-    same-length
-    returns)
+    (tie.spec (λ c κs. search needs) put-field-requires put-field-requires-2 put-field-requires-3
+    (λ c. search needs) put-bytes-requires (λ c. search needs) returns)

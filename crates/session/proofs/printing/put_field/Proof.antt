@@ -13,20 +13,11 @@ use Rattle.session.proofs.Pieces.{sets-rest, field-length, put-length}
 use Rattle.session.proofs.printing.put_field.Statement.{statement}
 use Rattle.session.proofs.printing.put_field.Tie as tie
 
-slice-write-out : tie.Need-slice-write-out
-slice-write-out c = search needs
-
-add-start : tie.Need-add-start
-add-start c = search needs
-
 sub-write-natural : tie.Need-sub-write-natural
 sub-write-natural c = rw length-set (omega (arith, c .before .pre))
 
 part-write-natural-start : tie.Need-part-write-natural-start
 part-write-natural-start c = rw length-set (omega (arith, c .before .pre))
-
-part-write-natural-end : tie.Need-part-write-natural-end
-part-write-natural-end c = search needs
 
 write-natural-requires : tie.Need-write-natural-requires
 write-natural-requires c κs = rw (part-to-end, length-drop, length-set) (omega (arith, c .before .before .pre))
@@ -61,13 +52,5 @@ returns c = put-rest c
 pub put-field-spec : {M : Type 1} → statement M
 put-field-spec =
     tie.close
-    (tie.spec
-    slice-write-out
-    add-start
-    sub-write-natural
-    part-write-natural-start
-    part-write-natural-end
-    write-natural-requires
-    add-result
-    same-length
-    returns)
+    (tie.spec (λ c. search needs) (λ c. search needs) sub-write-natural part-write-natural-start (λ c. search needs)
+    write-natural-requires add-result same-length returns)

@@ -6,24 +6,12 @@ use Rattle.session.proofs.Pieces.{field-length, put-then, put-length}
 use Rattle.session.proofs.printing.put_refusal.Statement.{statement}
 use Rattle.session.proofs.printing.put_refusal.Tie as tie
 
-slice-aggregate-put-bytes : tie.Need-slice-aggregate-put-bytes
-slice-aggregate-put-bytes c = search needs
-
-put-bytes-requires : tie.Need-put-bytes-requires
-put-bytes-requires c κs = search needs
-
-put-field-requires : tie.Need-put-field-requires
-put-field-requires c κs = search needs
-
 put-field-requires-2 : tie.Need-put-field-requires-2
 put-field-requires-2 c κs =
     let start = c .before .before .before .before .before .before .before .before .before .before .before in
     let word = c .before .before .before .before .before .before .before .put-bytes .ensures in
     let first = c .before .before .before .put-field .ensures in
     omega (arith, start .pre, put-length (put-then word first), word .end, first .end, field-length (start .args .number) (omega arith))
-
-slice-aggregate-put-bytes-2 : tie.Need-slice-aggregate-put-bytes-2
-slice-aggregate-put-bytes-2 c = search needs
 
 put-bytes-requires-2 : tie.Need-put-bytes-requires-2
 put-bytes-requires-2 c κs =
@@ -42,9 +30,6 @@ put-bytes-requires-2 c κs =
       field-length (start .args .index) (start .fits .index .fits),
     )
 
-same-length : tie.Need-same-length
-same-length c = search needs
-
 returns : tie.Need-returns
 returns c =
     put-then (put-then (put-then (c .before .before .before .before .before .before .before .before .before .before .before .before .before .before .before .put-bytes .ensures) (c .before .before .before .before .before .before .before .before .before .before .before .put-field .ensures)) (c .before .before .before .before .before .before .before .put-field2 .ensures))
@@ -53,12 +38,5 @@ returns c =
 pub put-refusal-spec : {M : Type 1} → statement M
 put-refusal-spec =
     tie.close
-    (tie.spec
-    slice-aggregate-put-bytes
-    put-bytes-requires
-    put-field-requires
-    put-field-requires-2
-    slice-aggregate-put-bytes-2
-    put-bytes-requires-2
-    same-length
-    returns)
+    (tie.spec (λ c. search needs) (λ c κs. search needs) (λ c κs. search needs) put-field-requires-2
+    (λ c. search needs) put-bytes-requires-2 (λ c. search needs) returns)
