@@ -8,9 +8,6 @@ use Rattle.tak.proofs.records.hand_back.Tie as tie
 put-record-requires : tie.Need-put-record-requires
 put-record-requires c κs = let start = c .before .before in (start .pre .0 (c .before .if1 .taken), start .pre .1)
 
-same-length : tie.Need-same-length
-same-length c = search needs
-
 returns : tie.Need-returns
 unfolding recordAfter
 returns c = rw (eq-eqb _ 0 (c .before .before .before .if1 .taken)) (c .before .put-record .ensures)
@@ -20,4 +17,4 @@ unfolding recordAfter
 returns-2 c = rw (ne-eqb _ 0 (c .if1 .left))
 
 pub hand-back-spec : {M : Type 1} → statement M
-hand-back-spec = tie.close (tie.spec put-record-requires same-length returns returns-2)
+hand-back-spec = tie.close (tie.spec put-record-requires (λ c. search needs) returns returns-2)

@@ -6,44 +6,11 @@ use Rattle.tak.proofs.Numbers.{stores}
 use Rattle.tak.proofs.records.put_record.Statement.{statement}
 use Rattle.tak.proofs.records.put_record.Tie as tie
 
-cast-numbers : tie.Need-cast-numbers
-cast-numbers c = search needs
-
-slice-set-from-numbers : tie.Need-slice-set-from-numbers
-slice-set-from-numbers c = search needs
-
-cast-numbers-2 : tie.Need-cast-numbers-2
-cast-numbers-2 c = search needs
-
-slice-set-from-numbers-2 : tie.Need-slice-set-from-numbers-2
-slice-set-from-numbers-2 c = search needs
-
-cast-numbers-3 : tie.Need-cast-numbers-3
-cast-numbers-3 c = search needs
-
-slice-set-from-numbers-3 : tie.Need-slice-set-from-numbers-3
-slice-set-from-numbers-3 c = search needs
-
-cast-numbers-4 : tie.Need-cast-numbers-4
-cast-numbers-4 c = search needs
-
-slice-set-from-numbers-4 : tie.Need-slice-set-from-numbers-4
-slice-set-from-numbers-4 c = search needs
-
-cast-numbers-5 : tie.Need-cast-numbers-5
-cast-numbers-5 c = search needs
-
 slice-set-from-numbers-5 : tie.Need-slice-set-from-numbers-5
 slice-set-from-numbers-5 c = simp length-set (omega arith)
 
-cast-numbers-6 : tie.Need-cast-numbers-6
-cast-numbers-6 c = search needs
-
 slice-set-from-numbers-6 : tie.Need-slice-set-from-numbers-6
 slice-set-from-numbers-6 c = simp length-set (omega arith)
-
-cast-numbers-7 : tie.Need-cast-numbers-7
-cast-numbers-7 c = search needs
 
 slice-set-from-numbers-7 : tie.Need-slice-set-from-numbers-7
 slice-set-from-numbers-7 c = simp length-set (omega arith)
@@ -83,27 +50,8 @@ returns c =
 pub put-record-spec : {M : Type 1} → statement M
 put-record-spec =
     tie.close
-    (tie.spec
-    cast-numbers
-    slice-set-from-numbers
-    cast-numbers-2
-    slice-set-from-numbers-2
-    cast-numbers-3
-    slice-set-from-numbers-3
-    cast-numbers-4
-    slice-set-from-numbers-4
-    cast-numbers-5
-    slice-set-from-numbers-5
-    cast-numbers-6
-    slice-set-from-numbers-6
-    cast-numbers-7
-    slice-set-from-numbers-7
-    slice-set-from-shr
-    cast-numbers-8
-    slice-set-from-numbers-8
-    cast-numbers-9
-    slice-set-from-numbers-9
-    cast-numbers-10
-    slice-set-from-numbers-10
-    same-length
-    returns)
+    (tie.spec (λ c. search needs) (λ c. search needs) (λ c. search needs) (λ c. search needs) (λ c. search needs)
+    (λ c. search needs) (λ c. search needs) (λ c. search needs) (λ c. search needs) slice-set-from-numbers-5
+    (λ c. search needs) slice-set-from-numbers-6 (λ c. search needs) slice-set-from-numbers-7 slice-set-from-shr
+    cast-numbers-8 slice-set-from-numbers-8 cast-numbers-9 slice-set-from-numbers-9 cast-numbers-10
+    slice-set-from-numbers-10 same-length returns)

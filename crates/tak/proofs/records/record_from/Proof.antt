@@ -11,69 +11,6 @@ use Rattle.tak.proofs.Held.{held-read}
 use Rattle.tak.proofs.records.record_from.Statement.{statement}
 use Rattle.tak.proofs.records.record_from.Tie as tie
 
-shared-slice-copy-out-held-short : tie.Need-shared-slice-copy-out-held-short
-shared-slice-copy-out-held-short c = search needs
-
-held-short-requires : tie.Need-held-short-requires
-held-short-requires c κs = search needs
-
-shared-slice-copy-out-held-short-2 : tie.Need-shared-slice-copy-out-held-short-2
-shared-slice-copy-out-held-short-2 c = search needs
-
-held-short-requires-2 : tie.Need-held-short-requires-2
-held-short-requires-2 c κs = search needs
-
-shared-slice-copy-out-held-short-3 : tie.Need-shared-slice-copy-out-held-short-3
-shared-slice-copy-out-held-short-3 c = search needs
-
-held-short-requires-3 : tie.Need-held-short-requires-3
-held-short-requires-3 c κs = search needs
-
-shared-slice-copy-out-held-short-4 : tie.Need-shared-slice-copy-out-held-short-4
-shared-slice-copy-out-held-short-4 c = search needs
-
-held-short-requires-4 : tie.Need-held-short-requires-4
-held-short-requires-4 c κs = search needs
-
-shared-slice-copy-out-held-short-5 : tie.Need-shared-slice-copy-out-held-short-5
-shared-slice-copy-out-held-short-5 c = search needs
-
-held-short-requires-5 : tie.Need-held-short-requires-5
-held-short-requires-5 c κs = search needs
-
-shared-slice-copy-out-held-short-6 : tie.Need-shared-slice-copy-out-held-short-6
-shared-slice-copy-out-held-short-6 c = search needs
-
-held-short-requires-6 : tie.Need-held-short-requires-6
-held-short-requires-6 c κs = search needs
-
-shared-slice-copy-out-held-short-7 : tie.Need-shared-slice-copy-out-held-short-7
-shared-slice-copy-out-held-short-7 c = search needs
-
-held-short-requires-7 : tie.Need-held-short-requires-7
-held-short-requires-7 c κs = search needs
-
-shared-slice-copy-out-t25 : tie.Need-shared-slice-copy-out-t25
-shared-slice-copy-out-t25 c = search needs
-
-shared-slice-copy-out-held-long : tie.Need-shared-slice-copy-out-held-long
-shared-slice-copy-out-held-long c = search needs
-
-held-long-requires : tie.Need-held-long-requires
-held-long-requires c κs = search needs
-
-shared-slice-copy-out-held-long-2 : tie.Need-shared-slice-copy-out-held-long-2
-shared-slice-copy-out-held-long-2 c = search needs
-
-held-long-requires-2 : tie.Need-held-long-requires-2
-held-long-requires-2 c κs = search needs
-
-shared-slice-copy-out-held-long-3 : tie.Need-shared-slice-copy-out-held-long-3
-shared-slice-copy-out-held-long-3 c = search needs
-
-held-long-requires-3 : tie.Need-held-long-requires-3
-held-long-requires-3 c κs = search needs
-
 read : (z : ℤ) → mag z < 2 ^ 63 → SFits w64 z
 read z f = record { sfits = f }
 
@@ -109,26 +46,8 @@ returns c i =
 pub record-from-spec : {M : Type 1} → statement M
 record-from-spec =
     tie.close
-    (tie.spec
-    shared-slice-copy-out-held-short
-    held-short-requires
-    shared-slice-copy-out-held-short-2
-    held-short-requires-2
-    shared-slice-copy-out-held-short-3
-    held-short-requires-3
-    shared-slice-copy-out-held-short-4
-    held-short-requires-4
-    shared-slice-copy-out-held-short-5
-    held-short-requires-5
-    shared-slice-copy-out-held-short-6
-    held-short-requires-6
-    shared-slice-copy-out-held-short-7
-    held-short-requires-7
-    shared-slice-copy-out-t25
-    shared-slice-copy-out-held-long
-    held-long-requires
-    shared-slice-copy-out-held-long-2
-    held-long-requires-2
-    shared-slice-copy-out-held-long-3
-    held-long-requires-3
-    returns)
+    (tie.spec (λ c. search needs) (λ c κs. search needs) (λ c. search needs) (λ c κs. search needs)
+    (λ c. search needs) (λ c κs. search needs) (λ c. search needs) (λ c κs. search needs) (λ c. search needs)
+    (λ c κs. search needs) (λ c. search needs) (λ c κs. search needs) (λ c. search needs) (λ c κs. search needs)
+    (λ c. search needs) (λ c. search needs) (λ c κs. search needs) (λ c. search needs) (λ c κs. search needs)
+    (λ c. search needs) (λ c κs. search needs) returns)
