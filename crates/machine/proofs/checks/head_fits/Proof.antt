@@ -5,14 +5,8 @@ use Rattle.machine.proofs.RecordLaws.{minus-fits, head-high, head-low}
 use Rattle.machine.proofs.checks.head_fits.Statement.{statement}
 use Rattle.machine.proofs.checks.head_fits.Tie as tie
 
-cast-if1 : tie.Need-cast-if1
-cast-if1 c = search needs
-
 sub-if1 : tie.Need-sub-if1
 sub-if1 c = minus-fits (c .args .b) 1 (omega arith) (omega arith)
-
-cast-result : tie.Need-cast-result
-cast-result c = search needs
 
 sub-result : tie.Need-sub-result
 sub-result c = minus-fits (c .before .args .s) 1 (omega arith) (omega arith)
@@ -28,4 +22,4 @@ returns-2 c =
     head-low (a .b) (a .s) (a .shr) (omega arith) (omega arith) (c .before .fits .shr) (c .if1 .left)
 
 pub head-fits-spec : {M : Type 1} → statement M
-head-fits-spec = tie.close (tie.spec cast-if1 sub-if1 cast-result sub-result returns returns-2)
+head-fits-spec = tie.close (tie.spec (λ c. search needs) sub-if1 (λ c. search needs) sub-result returns returns-2)

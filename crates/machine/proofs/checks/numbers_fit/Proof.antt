@@ -27,9 +27,6 @@ returns-2 c =
     let a = one .before .before .args in
     by-ircr (a .rec) (a .input) (one .if1 .left) (c .if2 .taken)
 
-head-fits-requires : tie.Need-head-fits-requires
-head-fits-requires c κs = search needs
-
 returns-3 : tie.Need-returns-3
 returns-3 c =
     let two = c .before .before .before in
@@ -67,4 +64,4 @@ returns-6 c =
     (five .if5 .left)
 
 pub numbers-fit-spec : {M : Type 1} → statement M
-numbers-fit-spec = tie.close (tie.spec returns returns-2 head-fits-requires returns-3 returns-4 returns-5 returns-6)
+numbers-fit-spec = tie.close (tie.spec returns returns-2 (λ c κs. search needs) returns-3 returns-4 returns-5 returns-6)

@@ -9,9 +9,6 @@ use Rattle.machine.proofs.RecordLaws.{by-numbers, by-registers, by-cell
 use Rattle.machine.proofs.checks.record_fits.Statement.{statement}
 use Rattle.machine.proofs.checks.record_fits.Tie as tie
 
-numbers-fit-requires : tie.Need-numbers-fit-requires
-numbers-fit-requires c κs = search needs
-
 returns : tie.Need-returns
 returns c =
     let a = c .before .before .before .args in
@@ -24,9 +21,6 @@ limit-of-requires c κs =
     let l = limits (start .args .rec .parameters) (start .pre) in
     (l .k-low, l .k-high)
 
-values-fit-requires : tie.Need-values-fit-requires
-values-fit-requires c κs = search needs
-
 returns-2 : tie.Need-returns-2
 returns-2 c =
     let limit = c .before .before in
@@ -35,9 +29,6 @@ returns-2 c =
     λ image. by-registers image (now (a .input)) (asHeld (a .rec) (now (a .registers)) (now (a .cells)))
     (sym (one .before .numbers-fit .ensures) ∙ not-false _ (one .if1 .left)) _ (limit .limit-of .ensures .0)
     (sym (c .before .values-fit .ensures) ∙ not-true _ (c .if2 .taken))
-
-values-fit-requires-2 : tie.Need-values-fit-requires-2
-values-fit-requires-2 c κs = search needs
 
 returns-3 : tie.Need-returns-3
 returns-3 c =
@@ -52,11 +43,5 @@ returns-3 c =
 pub record-fits-spec : {M : Type 1} → statement M
 record-fits-spec =
     tie.close
-    (tie.spec
-    numbers-fit-requires
-    returns
-    limit-of-requires
-    values-fit-requires
-    returns-2
-    values-fit-requires-2
-    returns-3)
+    (tie.spec (λ c κs. search needs) returns limit-of-requires (λ c κs. search needs) returns-2
+    (λ c κs. search needs) returns-3)

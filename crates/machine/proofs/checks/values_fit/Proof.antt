@@ -19,23 +19,8 @@ abbrev μ-loop : tie.MeasureT-loop
 loop-holds : tie.Need-loop-holds Inv-loop μ-loop
 loop-holds c = refl
 
-mul-in-range : tie.Need-mul-in-range Inv-loop μ-loop
-mul-in-range c = search needs
-
-shared-slice-copy-out-in-range : tie.Need-shared-slice-copy-out-in-range Inv-loop μ-loop
-shared-slice-copy-out-in-range c = search needs
-
 in-range-requires : tie.Need-in-range-requires Inv-loop μ-loop
 in-range-requires c κs = c .before .before .before .pre
-
-both-requires : tie.Need-both-requires Inv-loop μ-loop
-both-requires c κs = search needs
-
-add-i : tie.Need-add-i Inv-loop μ-loop
-add-i c = search needs
-
-loop-less : tie.Need-loop-less Inv-loop μ-loop
-loop-less c = search needs
 
 loop-again : tie.Need-loop-again Inv-loop μ-loop
 loop-again c =
@@ -54,15 +39,5 @@ returns c =
 pub values-fit-spec : {M : Type 1} → statement M
 values-fit-spec =
     tie.close
-    (tie.spec
-    Inv-loop
-    μ-loop
-    loop-holds
-    mul-in-range
-    shared-slice-copy-out-in-range
-    in-range-requires
-    both-requires
-    add-i
-    loop-less
-    loop-again
-    returns)
+    (tie.spec Inv-loop μ-loop loop-holds (λ c. search needs) (λ c. search needs) in-range-requires
+    (λ c κs. search needs) (λ c. search needs) (λ c. search needs) loop-again returns)
