@@ -17,15 +17,6 @@ returns c =
     let a = c .before .before .args in
     sym (ap (λ (o : Option Argument). placedOf (placed (a .p) (a .form) o)) (argument-none (now (a .w)) (c .if1 .taken)))
 
-shared-slice-read-upper : tie.Need-shared-slice-read-upper
-shared-slice-read-upper c = search needs
-
-upper-requires : tie.Need-upper-requires
-upper-requires c κs = search needs
-
-register-word-requires : tie.Need-register-word-requires
-register-word-requires c κs = search needs
-
 returns-2 : tie.Need-returns-2
 returns-2 c =
     let at = c .before in
@@ -34,9 +25,6 @@ returns-2 c =
     ∙ sym (ap (λ (o : Option Argument). placedOf (placed (a .p) (a .form) o))
     (argument-register (now (a .w)) (search needs) (sym (at .before .upper .ensures) ∙ at .if2 .taken)))
 
-direct-word-requires : tie.Need-direct-word-requires
-direct-word-requires c κs = search needs
-
 returns-3 : tie.Need-returns-3
 returns-3 c =
     let at = c .before in
@@ -44,12 +32,6 @@ returns-3 c =
     c .direct-word .ensures
     ∙ sym (ap (λ (o : Option Argument). placedOf (placed (a .p) (a .form) o))
     (argument-direct (now (a .w)) (search needs) (sym (at .before .before .upper .ensures) ∙ at .if3 .taken)))
-
-special-requires : tie.Need-special-requires
-special-requires c κs = search needs
-
-number-word-requires : tie.Need-number-word-requires
-number-word-requires c κs = search needs
 
 returns-4 : tie.Need-returns-4
 returns-4 c =
@@ -88,17 +70,6 @@ returns-6 c =
 pub argument-word-spec : {M : Type 1} → statement M
 argument-word-spec =
     tie.close
-    (tie.spec
-    returns
-    shared-slice-read-upper
-    upper-requires
-    register-word-requires
-    returns-2
-    direct-word-requires
-    returns-3
-    special-requires
-    number-word-requires
-    returns-4
-    add-t13
-    returns-5
+    (tie.spec returns (λ c. search needs) (λ c κs. search needs) (λ c κs. search needs) returns-2
+    (λ c κs. search needs) returns-3 (λ c κs. search needs) (λ c κs. search needs) returns-4 add-t13 returns-5
     returns-6)

@@ -18,19 +18,10 @@ returns c =
     let a = c .before .before .args in
     sym (ap (λ (o : Option Argument). placedOf (placed (a .p) (a .form) o)) (after-none (now (a .w)) (omega arith)))
 
-shared-slice-read-upper : tie.Need-shared-slice-read-upper
-shared-slice-read-upper c = search needs
-
-upper-requires : tie.Need-upper-requires
-upper-requires c κs = search needs
-
 returns-2 : tie.Need-returns-2
 returns-2 c =
     let a = c .before .before .before .before .before .args in
     sym (ap (λ (o : Option Argument). placedOf (placed (a .p) (a .form) o)) (after-other (now (a .w)) (search needs) (λ e. c .if2 .taken (c .before .upper .ensures ∙ e))))
-
-read-digits-requires : tie.Need-read-digits-requires
-read-digits-requires c κs = search needs
 
 indexed-requires : tie.Need-indexed-requires
 indexed-requires c κs =
@@ -61,12 +52,5 @@ returns-4 c =
 pub direct-word-spec : {M : Type 1} → statement M
 direct-word-spec =
     tie.close
-    (tie.spec
-    returns
-    shared-slice-read-upper
-    upper-requires
-    returns-2
-    read-digits-requires
-    indexed-requires
-    returns-3
-    returns-4)
+    (tie.spec returns (λ c. search needs) (λ c κs. search needs) returns-2 (λ c κs. search needs) indexed-requires
+    returns-3 returns-4)

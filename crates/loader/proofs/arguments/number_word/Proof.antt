@@ -45,15 +45,6 @@ returns c =
 read-number-requires : tie.Need-read-number-requires
 read-number-requires c κs = limit-bounds (c .before .before)
 
-enum-told : tie.Need-enum-told
-enum-told c = search needs
-
-enum-told-2 : tie.Need-enum-told-2
-enum-told-2 c = search needs
-
-enum-known-r : tie.Need-enum-known-r
-enum-known-r c = search needs
-
 literal-word-requires : tie.Need-literal-word-requires
 literal-word-requires c κs = rw (toZ-ofZ (number-fits (c .before))) (number-size (c .before))
 
@@ -83,13 +74,5 @@ returns-4 c =
 pub number-word-spec : {M : Type 1} → statement M
 number-word-spec =
     tie.close
-    (tie.spec
-    returns
-    read-number-requires
-    enum-told
-    enum-told-2
-    enum-known-r
-    literal-word-requires
-    returns-2
-    returns-3
-    returns-4)
+    (tie.spec returns read-number-requires (λ c. search needs) (λ c. search needs) (λ c. search needs)
+    literal-word-requires returns-2 returns-3 returns-4)

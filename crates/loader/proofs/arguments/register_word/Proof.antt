@@ -10,9 +10,6 @@ use Rattle.loader.proofs.ArgumentLaws.{register-barred, register-placed
 use Rattle.loader.proofs.arguments.register_word.Statement.{statement}
 use Rattle.loader.proofs.arguments.register_word.Tie as tie
 
-read-digits-requires : tie.Need-read-digits-requires
-read-digits-requires c κs = search needs
-
 indexed-requires : tie.Need-indexed-requires
 indexed-requires c κs =
     let a = c .before .before .before in
@@ -34,4 +31,4 @@ returns-2 c =
     sym (ap placedOf (register-barred (a .p) (a .form) (c .if1 .left) (natural (drop 1 (now (a .w))))))
 
 pub register-word-spec : {M : Type 1} → statement M
-register-word-spec = tie.close (tie.spec read-digits-requires indexed-requires returns returns-2)
+register-word-spec = tie.close (tie.spec (λ c κs. search needs) indexed-requires returns returns-2)

@@ -5,23 +5,11 @@ use Rattle.loader.proofs.ArgumentLaws.{special-choice}
 use Rattle.loader.proofs.arguments.special.Statement.{statement}
 use Rattle.loader.proofs.arguments.special.Tie as tie
 
-slice-aggregate-same-word : tie.Need-slice-aggregate-same-word
-slice-aggregate-same-word c = search needs
-
-same-word-requires : tie.Need-same-word-requires
-same-word-requires c κs = search needs
-
 returns : tie.Need-returns
 returns c =
     let w = now (c .before .before .before .before .args .w) in
     let f1 = sym (c .before .same-word .ensures) ∙ c .if1 .taken in
     sym (special-choice w ∙ simp (f1))
-
-slice-aggregate-same-word-2 : tie.Need-slice-aggregate-same-word-2
-slice-aggregate-same-word-2 c = search needs
-
-same-word-requires-2 : tie.Need-same-word-requires-2
-same-word-requires-2 c κs = search needs
 
 returns-2 : tie.Need-returns-2
 returns-2 c =
@@ -29,12 +17,6 @@ returns-2 c =
     let f1 = sym (c .before .before .before .before .same-word .ensures) ∙ c .before .before .before .if1 .left in
     let f2 = sym (c .before .same-word2 .ensures) ∙ c .if2 .taken in
     sym (special-choice w ∙ simp (f1, f2))
-
-slice-aggregate-same-word-3 : tie.Need-slice-aggregate-same-word-3
-slice-aggregate-same-word-3 c = search needs
-
-same-word-requires-3 : tie.Need-same-word-requires-3
-same-word-requires-3 c κs = search needs
 
 returns-3 : tie.Need-returns-3
 returns-3 c =
@@ -55,14 +37,5 @@ returns-4 c =
 pub special-spec : {M : Type 1} → statement M
 special-spec =
     tie.close
-    (tie.spec
-    slice-aggregate-same-word
-    same-word-requires
-    returns
-    slice-aggregate-same-word-2
-    same-word-requires-2
-    returns-2
-    slice-aggregate-same-word-3
-    same-word-requires-3
-    returns-3
-    returns-4)
+    (tie.spec (λ c. search needs) (λ c κs. search needs) returns (λ c. search needs) (λ c κs. search needs)
+    returns-2 (λ c. search needs) (λ c κs. search needs) returns-3 returns-4)
