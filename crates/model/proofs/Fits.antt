@@ -11,7 +11,7 @@ use lib.ListN.{length}
 use lib.Pow.{pow-mono}
 use borrow.Author.Tests.{leb-true, eqb-true, eq-eqb}
 use Rattle.model.specs.declared.Parameters.{Parameters}
-use Rattle.model.specs.Parameters.{Check, _unless_, refusalOf, allPass, between, limit, parameterChecks, Fit}
+use Rattle.model.specs.Parameters.{Check, _unless_, refusalOf, allPass, between, limit, maxRegisters, maxCells, maxInstructions, maxInput, maxGrant, maxGranted, parameterChecks, Fit}
 use Rattle.model.specs.Images.{imageFits}
 use Rattle.model.specs.Grants.{Account, Call}
 use Rattle.model.specs.Step.{Environment, Memory, State}
@@ -150,13 +150,13 @@ pub record Limits (p : Parameters) : Type 0 where
   pub k-low : 8 ≤ p .k
   pub k-high : p .k ≤ 30
   pub n-low : 1 ≤ p .n
-  pub n-high : p .n ≤ 256
+  pub n-high : p .n ≤ maxRegisters
   pub s-low : 1 ≤ p .s
-  pub s-high : p .s ≤ 4096
+  pub s-high : p .s ≤ maxCells
   pub s-value : p .s ≤ limit (p .k) - 1
   pub b-high : p .b ≤ p .s
   pub t-low : 1 ≤ p .t
-  pub t-high : p .t ≤ 4096
+  pub t-high : p .t ≤ maxInstructions
   pub t-value : p .t ≤ limit (p .k) - 1
 
 pub parameters-numbered : (p : Parameters) → Numbered (parameterChecks p)
@@ -164,10 +164,10 @@ unfolding parameterChecks
 parameters-numbered p = omega arith
 
 -- A count of cells, which a value can hold.
-counted : (m x : ℕ) → (between 1 4096 x && leb x (m - 1)) ≡ true → (1 ≤ x) × (x ≤ 4096) × (x ≤ m - 1)
-counted m x h =
-    let k = both (between 1 4096 x) (leb x (m - 1)) h in
-    let b = is-between 1 4096 x (k .0) in
+counted : (most m x : ℕ) → (between 1 most x && leb x (m - 1)) ≡ true → (1 ≤ x) × (x ≤ most) × (x ≤ m - 1)
+counted most m x h =
+    let k = both (between 1 most x) (leb x (m - 1)) h in
+    let b = is-between 1 most x (k .0) in
     (b .0, b .1, leb-true x (m - 1) (k .1))
 
 pub limits : (p : Parameters) → Fit p → Limits p
@@ -175,9 +175,9 @@ unfolding parameterChecks
 limits p h =
     let f = all-fit (parameterChecks p) (parameters-numbered p) h in
     let k = is-between 8 30 (p .k) (f .0) in
-    let n = is-between 1 256 (p .n) (f .1 .0) in
-    let s = counted (limit (p .k)) (p .s) (f .1 .1 .0) in
-    let t = counted (limit (p .k)) (p .t) (f .1 .1 .1 .1 .0) in
+    let n = is-between 1 maxRegisters (p .n) (f .1 .0) in
+    let s = counted maxCells (limit (p .k)) (p .s) (f .1 .1 .0) in
+    let t = counted maxInstructions (limit (p .k)) (p .t) (f .1 .1 .1 .1 .0) in
     record {
       k-low = k .0;
       k-high = k .1;
@@ -271,9 +271,9 @@ module _ (e : Environment) (m : Memory) where
 pub record GrantFits (e : Environment) (a : Account State) (c : Call) : Type 0 where
   pub start : StartFits e (memoryOf (a .state))
   pub record-fits : recordFits e a ≡ true
-  pub input-length : length (e .input) ≤ 65536
-  pub cycles : c .cycles ≤ 1_000_000_000
-  pub granted : a .granted + c .cycles ≤ 1_000_000_000_000_000
+  pub input-length : length (e .input) ≤ maxInput
+  pub cycles : c .cycles ≤ maxGrant
+  pub granted : a .granted + c .cycles ≤ maxGranted
 
 abbrev ofStart : Environment → Account State → List Check
 ofStart e a = startChecks e (memoryOf (a .state))
@@ -287,13 +287,13 @@ module _ (e : Environment) (a : Account State) (c : Call) where
   unfolding grantChecks
   grant-fit f =
       let g = fit-right (ofStart e a) _ f in
-      let k = both (leb (c .cycles) 1_000_000_000) (leb (a .granted + c .cycles) 1_000_000_000_000_000) (g .1 .1 .0) in
+      let k = both (leb (c .cycles) maxGrant) (leb (a .granted + c .cycles) maxGranted) (g .1 .1 .0) in
       record {
         start = start-fit e (memoryOf (a .state)) (fit-left (ofStart e a) _ f);
         record-fits = g .0;
-        input-length = leb-true (length (e .input)) 65536 (g .1 .0);
-        cycles = leb-true (c .cycles) 1_000_000_000 (k .0);
-        granted = leb-true (a .granted + c .cycles) 1_000_000_000_000_000 (k .1);
+        input-length = leb-true (length (e .input)) maxInput (g .1 .0);
+        cycles = leb-true (c .cycles) maxGrant (k .0);
+        granted = leb-true (a .granted + c .cycles) maxGranted (k .1);
       }
 
   pub grant-accepted : grantRefusal e a c ≡ 0 → GrantFits e a c

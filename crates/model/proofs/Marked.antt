@@ -16,7 +16,7 @@ use Rattle.model.specs.declared.LoadReply.the-variants as load
 use Rattle.model.specs.Parameters.{refusalOf, parameterChecks}
 use Rattle.model.specs.Numbers.{bytes, digitsFrom, digitsOf}
 use Rattle.model.specs.Arithmetic.{checked, divide, remainder, negation, logic, bitsOf, signedOf, bitwise, shiftLeft, shiftRight, shiftRightSigned}
-use Rattle.model.specs.Instructions.{rows, rowOf, directs, costOf}
+use Rattle.model.specs.Instructions.{rows, instructionCount, rowOf, directs, costOf}
 use Rattle.model.specs.Load.{linesFrom, wordsFrom, sameWord, lookupFrom, names, specialOf, plain, argument, allows, isWithin, argumentsFrom, lineCell, linesReply, linesWords, textReply, imageOf, loadChecks, loadReply}
 use Rattle.model.specs.Images.{wordFits, wordsFit, cellFits, allZero, cellsFit}
 use Rattle.model.specs.Machine.{look, lookAt}
@@ -115,7 +115,7 @@ said (grants a b) = grants b b
 
 pub marks : List Mark
 marks =
-    words (length rows ∷ []) (54 ∷ [])
+    words (length rows ∷ []) (instructionCount ∷ [])
     ∷ words (firstCell "SET R0 13") (0x8 ∷ 0x40000000 ∷ 0xC000000D ∷ 0 ∷ [])
     ∷ words (firstCell "SET R0 -10") (0x8 ∷ 0x40000000 ∷ 0xFFFFFFF6 ∷ 0 ∷ [])
     ∷ values (registers "SET R0 13\nSET R1 -10\nDIV R0 R1 R1") (pos 13 ∷ negsuc 0 ∷ [])

@@ -15,7 +15,7 @@ use Rattle.model.specs.declared.Outcome.the-variants.{Refused, Stopped}
 use Rattle.model.specs.declared.StartReply.{StartReply}
 use Rattle.model.specs.declared.GrantReply.{GrantReply}
 use Rattle.model.specs.declared.DecimalReply.{DecimalReply}
-use Rattle.model.specs.Parameters.{Check, _unless_, refusalOf, allPass, parameterChecks, limit, inRange}
+use Rattle.model.specs.Parameters.{Check, _unless_, refusalOf, allPass, parameterChecks, limit, maxInput, maxGrant, maxGranted, inRange}
 use Rattle.model.specs.Numbers.{bytes, decimal}
 use Rattle.model.specs.Words.{isEmpty}
 use Rattle.model.specs.Load.{lengthCheck}
@@ -112,8 +112,8 @@ abbrev pub allInRange : (m : ℕ) → List ℤ → Bool
 allInRange m [] = true
 allInRange m (z ∷ zs) = inRange m z && allInRange m zs
 
--- What 15 asks of a record, with an input of this length: not "a record with IAR outside 0..T, IRCR outside 0..3, SHR outside B-1..S-1, spent over granted, granted over
--- 10^15 or the place past the input".
+-- What 15 asks of a record, with an input of this length: not "a record with IAR outside 0..T, IRCR outside 0..3, SHR outside B-1..S-1,
+-- spent over granted, granted over 10^15 or the place past the input".
 abbrev pub recordTests : Parameters → (input : ℕ) → Account State → List Bool
 recordTests p input a =
     leb (a .state .iar) (p .t)
@@ -121,7 +121,7 @@ recordTests p input a =
     ∷ leZ (pos (p .b) -ℤ pos 1) (a .state .shr)
     ∷ leZ (a .state .shr) (pos (p .s) -ℤ pos 1)
     ∷ leb (a .spent) (a .granted)
-    ∷ leb (a .granted) 1_000_000_000_000_000
+    ∷ leb (a .granted) maxGranted
     ∷ leb (a .state .place) input
     ∷ []
 
@@ -142,8 +142,8 @@ unfoldable pub grantChecks : Environment → Account State → Call → List Che
 grantChecks e a c =
     startChecks e (memoryOf (a .state)) ++ (
     15 unless (recordFits e a)
-    ∷ 16 unless (leb (length (e .input)) 65536)
-    ∷ 17 unless (leb (c .cycles) 1_000_000_000 && leb (a .granted + c .cycles) 1_000_000_000_000_000)
+    ∷ 16 unless (leb (length (e .input)) maxInput)
+    ∷ 17 unless (leb (c .cycles) maxGrant && leb (a .granted + c .cycles) maxGranted)
     ∷ [])
 
 -- The number of a grant's refusal, or 0.

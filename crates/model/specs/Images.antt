@@ -8,8 +8,8 @@ use lib.ListN.{getD, length, take, drop}
 use Rattle.model.specs.declared.Parameters.{Parameters}
 use Rattle.model.specs.declared.LoadReply.the-variants.{Accepted}
 use Rattle.model.specs.Parameters.{between}
-use Rattle.model.specs.Words.{Argument, register, special, direct, literal, Cell, cellOf, kindOf, contentOf, numberOf, isEmpty}
-use Rattle.model.specs.Instructions.{rows, rowOf}
+use Rattle.model.specs.Words.{Argument, register, special, direct, literal, Cell, cellOf, kindOf, registerKind, directKind, numberKind, contentOf, iarNumber, shrNumber, numberOf, isEmpty}
+use Rattle.model.specs.Instructions.{instructionCount, rowOf}
 use Rattle.model.specs.Load.{textReply, imageOf, allows, isWithin}
 
 -- A text, of any length, that is accepted under these parameters with this image.
@@ -26,7 +26,7 @@ NoTextYields p image = (text : List ℕ) → ¬ Yields p text image
 -- THE TEST ON CELLS, which 10's number uses.
 -- "the register (0..N-1; IAR 256, IRCR 257, SHR 258)"
 abbrev pub registerFits : Parameters → (form r : ℕ) → Bool
-registerFits p form r = cond (between 256 258 r) (allows form (special r)) (allows form (register r) && isWithin p (register r))
+registerFits p form r = cond (between iarNumber shrNumber r) (allows form (special r)) (allows form (register r) && isWithin p (register r))
 
 -- Neither 13 nor 14.
 abbrev argumentFits : Parameters → ℕ → Argument → Bool
@@ -35,9 +35,9 @@ argumentFits p form a = allows form a && isWithin p a
 -- A word at a place of this form: kind 1, 2 or 3.
 unfoldable pub wordFits : Parameters → (form word : ℕ) → Bool
 wordFits p form w =
-    cond (eqb (kindOf w) 1) (registerFits p form (contentOf w))
-    (cond (eqb (kindOf w) 2) (argumentFits p form (direct (contentOf w)))
-    (eqb (kindOf w) 3 && argumentFits p form (literal (numberOf (contentOf w)))))
+    cond (eqb (kindOf w) registerKind) (registerFits p form (contentOf w))
+    (cond (eqb (kindOf w) directKind) (argumentFits p form (direct (contentOf w)))
+    (eqb (kindOf w) numberKind && argumentFits p form (literal (numberOf (contentOf w)))))
 
 -- The words at the places of a row; "An absent argument is 0."
 unfoldable pub wordsFit : Parameters → (forms words : List ℕ) → Bool
@@ -48,7 +48,7 @@ wordsFit p (f ∷ fs) (w ∷ ws) = wordFits p f w && wordsFit p fs ws
 
 -- An instruction: its number, and its arguments by its row.
 unfoldable pub cellFits : Parameters → Cell → Bool
-cellFits p c = between 1 (length rows) (c .head) && wordsFit p (rowOf (c .head) .forms) (c .first ∷ c .second ∷ c .third ∷ [])
+cellFits p c = between 1 instructionCount (c .head) && wordsFit p (rowOf (c .head) .forms) (c .first ∷ c .second ∷ c .third ∷ [])
 
 -- "only empty cells follow it"
 unfoldable pub allZero : List ℕ → Bool

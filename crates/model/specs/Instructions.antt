@@ -10,7 +10,7 @@ use lib.ListN.{getD}
 use lib.Signed.{ltZ, leZ}
 use Rattle.model.specs.declared.Parameters.{Parameters}
 use Rattle.model.specs.Parameters.{eqZ, booleanOf}
-use Rattle.model.specs.Words.{Cell, kindOf}
+use Rattle.model.specs.Words.{Cell, kindOf, directKind}
 use Rattle.model.specs.Numbers.{bytes}
 use Rattle.model.specs.Arithmetic.{Answer, value, checked, divide, remainder, negation, logic, bitsOf, signedOf, inverted, bitwise, shiftLeft, shiftRight, shiftRightSigned}
 
@@ -157,14 +157,18 @@ rows =
     ∷ shift "ASR" shiftRightSigned
     ∷ []
 
--- The row of an instruction's number. A head that is none (0 or above 54), which no fit image has, gets NOP's.
+-- "Numbers run from 1 .. (54)": the rows are as many, by proofs/Marked.antt.
+abbrev pub instructionCount : ℕ
+instructionCount = 54
+
+-- The row of an instruction's number. A head that is none, which no fit image has, gets NOP's.
 unfoldable pub rowOf : ℕ → Row
 rowOf zero = nop
 rowOf (suc n) = getD rows n nop
 
 -- 1 for a direct argument.
 abbrev pub isDirect : ℕ → ℕ
-isDirect w = cond (eqb (kindOf w) 2) 1 0
+isDirect w = cond (eqb (kindOf w) directKind) 1 0
 
 -- The addressing mode: the count of direct arguments.
 unfoldable pub directs : Cell → ℕ

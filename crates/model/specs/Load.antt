@@ -8,8 +8,8 @@ use lib.ListN.{length, replicate}
 use Rattle.model.specs.declared.Parameters.{Parameters}
 use Rattle.model.specs.declared.LoadReply.{LoadReply}
 use Rattle.model.specs.declared.LoadReply.the-variants.{Accepted, Refused}
-use Rattle.model.specs.Parameters.{Check, _unless_, refusalOf, parameterChecks, limit, inRange}
-use Rattle.model.specs.Words.{Argument, register, special, direct, literal, argumentWord, Cell, cellWith, cellWords}
+use Rattle.model.specs.Parameters.{Check, _unless_, refusalOf, parameterChecks, limit, maxText, inRange}
+use Rattle.model.specs.Words.{Argument, register, special, direct, literal, argumentWord, iarNumber, ircrNumber, shrNumber, Cell, cellWith, cellWords}
 use Rattle.model.specs.Numbers.{bytes, among, upper, mapped, natural, number}
 use Rattle.model.specs.Instructions.{Row, rows, rowOf}
 
@@ -72,8 +72,8 @@ lookup w = lookupFrom 1 w names
 unfoldable pub specialOf : List ℕ → ℕ
 specialOf w =
     elim (sameWord w (bytes "IAR")) [
-      | true ↦ 256
-      | false ↦ elim (sameWord w (bytes "IRCR")) [ true ↦ 257 | false ↦ elim (sameWord w (bytes "SHR")) [ true ↦ 258 | false ↦ 0 ] ]
+      | true ↦ iarNumber
+      | false ↦ elim (sameWord w (bytes "IRCR")) [ true ↦ ircrNumber | false ↦ elim (sameWord w (bytes "SHR")) [ true ↦ shrNumber | false ↦ 0 ] ]
     ]
 
 -- "DM with digits", from behind the D
@@ -176,7 +176,7 @@ lengthCheck p image = 6 unless (eqb (length image) (4 * p .t))
 
 -- "Load: 1 K, 2 N, 3 S, 4 B, 5 T ..; 6 ..; 7 text over 65,536 bytes"
 unfoldable pub loadChecks : Parameters → (text old : List ℕ) → List Check
-loadChecks p text old = parameterChecks p ++ (lengthCheck p old ∷ 7 unless (leb (length text) 65536) ∷ [])
+loadChecks p text old = parameterChecks p ++ (lengthCheck p old ∷ 7 unless (leb (length text) maxText) ∷ [])
 
 -- The reply: a refusal with index 0 ("0 in all other refusals"), or what the text says.
 unfoldable pub loadReply : Parameters → (text old : List ℕ) → LoadReply

@@ -36,14 +36,38 @@ between low high x = leb low x && leb x high
 abbrev pub limit : ℕ → ℕ
 limit k = 2 ^ (k - 1)
 
+-- "N .. 1..256, S .. 1..4,096, .. T .. 1..4,096"
+abbrev pub maxRegisters : ℕ
+maxRegisters = 256
+
+abbrev pub maxCells : ℕ
+maxCells = 4096
+
+abbrev pub maxInstructions : ℕ
+maxInstructions = 4096
+
+-- "text over 65,536 bytes", "input over 65,536 bytes"
+abbrev pub maxText : ℕ
+maxText = 65536
+
+abbrev pub maxInput : ℕ
+maxInput = 65536
+
+-- "a grant over 10^9", "granted over 10^15"
+abbrev pub maxGrant : ℕ
+maxGrant = 1_000_000_000
+
+abbrev pub maxGranted : ℕ
+maxGranted = 1_000_000_000_000_000
+
 -- "K .. is 8..30, N .. 1..256, S .. 1..4,096, B .. 0..S, T .. 1..4,096. S and T are each at most 2^(K-1) - 1": 1 to 5, "in that order".
 unfoldable pub parameterChecks : Parameters → List Check
 parameterChecks p =
     1 unless (between 8 30 (p .k))
-    ∷ 2 unless (between 1 256 (p .n))
-    ∷ 3 unless (between 1 4096 (p .s) && leb (p .s) (limit (p .k) - 1))
+    ∷ 2 unless (between 1 maxRegisters (p .n))
+    ∷ 3 unless (between 1 maxCells (p .s) && leb (p .s) (limit (p .k) - 1))
     ∷ 4 unless (leb (p .b) (p .s))
-    ∷ 5 unless (between 1 4096 (p .t) && leb (p .t) (limit (p .k) - 1))
+    ∷ 5 unless (between 1 maxInstructions (p .t) && leb (p .t) (limit (p .k) - 1))
     ∷ []
 
 -- The parameters are within their limits.

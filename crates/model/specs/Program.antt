@@ -11,6 +11,7 @@ use Rattle.model.specs.declared.Ending.the-variants.{Failed, Ended, Paus
 use Rattle.model.specs.declared.Outcome.{Outcome}
 use Rattle.model.specs.declared.Outcome.the-variants.{Refused, Stopped}
 use Rattle.model.specs.declared.LoadReply.the-variants as load
+use Rattle.model.specs.Parameters.{maxGrant}
 use Rattle.model.specs.Load.{loadReply, imageOf}
 use Rattle.model.specs.Grants.{Call}
 use Rattle.model.specs.Step.{Environment, environmentOf}
@@ -57,7 +58,7 @@ grantLines e (suc n) cycles h =
 abbrev pub startLines : Environment → Started → List ℕ
 startLines e s =
     elim (s .reply .refusal) [
-      | zero ↦ grantLines e 1_000_000_001 1_000_000_000 (heldAfterStart s)
+      | zero ↦ grantLines e (suc maxGrant) maxGrant (heldAfterStart s)
       | suc k ↦ refusalLine (suc k) 0
     ]
 

@@ -9,7 +9,7 @@ use lib.ListN.{length, getD, set, drop, replicate}
 use lib.Signed.{nonNeg}
 use Rattle.model.specs.declared.Parameters.{Parameters}
 use Rattle.model.specs.Parameters.{limit, inRange, eqZ, isBoolean, isTrue}
-use Rattle.model.specs.Words.{Cell, cellAt, isEmpty, kindOf, contentOf, numberOf}
+use Rattle.model.specs.Words.{Cell, cellAt, isEmpty, kindOf, registerKind, directKind, numberKind, contentOf, iarNumber, ircrNumber, shrNumber, numberOf}
 use Rattle.model.specs.Numbers.{isBlank, number}
 use Rattle.model.specs.Arithmetic.{Answer, value, code}
 use Rattle.model.specs.Instructions.{Position, first, second, third, Operation, clearRegisters, clearCells, dumpRegisters, dumpCells, inputs, outputs, pushes, pops, skips, idles, writes, jumps, jumpsOn, rowOf, costOf}
@@ -72,22 +72,22 @@ withCells xs s = record { iar = s .iar; ircr = s .ircr; shr = s .shr; place = s 
 -- "IAR 256, IRCR 257, SHR 258"; "Reads of IAR give the current cell's index."
 unfoldable pub registerValue : State → ℕ → ℤ
 registerValue s r =
-    cond (eqb r 256) (pos (s .iar))
-    (cond (eqb r 257) (pos (s .ircr))
-    (cond (eqb r 258) (s .shr) (getD (s .registers) r (pos 0))))
+    cond (eqb r iarNumber) (pos (s .iar))
+    (cond (eqb r ircrNumber) (pos (s .ircr))
+    (cond (eqb r shrNumber) (s .shr) (getD (s .registers) r (pos 0))))
 
 -- The value of an argument, by the kind of its word.
 unfoldable pub valueOf : State → ℕ → ℤ
 valueOf s w =
-    cond (eqb (kindOf w) 1) (registerValue s (contentOf w))
-    (cond (eqb (kindOf w) 2) (getD (s .cells) (contentOf w) (pos 0))
-    (cond (eqb (kindOf w) 3) (numberOf (contentOf w)) (pos 0)))
+    cond (eqb (kindOf w) registerKind) (registerValue s (contentOf w))
+    (cond (eqb (kindOf w) directKind) (getD (s .cells) (contentOf w) (pos 0))
+    (cond (eqb (kindOf w) numberKind) (numberOf (contentOf w)) (pos 0)))
 
 -- A value is written to the register or data cell that an argument names.
 unfoldable pub store : ℕ → ℤ → State → State
 store w v s =
-    cond (eqb (kindOf w) 1) (withRegisters (set (s .registers) (contentOf w) v) s)
-    (cond (eqb (kindOf w) 2) (withCells (set (s .cells) (contentOf w) v) s) s)
+    cond (eqb (kindOf w) registerKind) (withRegisters (set (s .registers) (contentOf w) v) s)
+    (cond (eqb (kindOf w) directKind) (withCells (set (s .cells) (contentOf w) v) s) s)
 
 -- The word of the argument that is written.
 abbrev pub argumentAt : Position → Cell → ℕ

@@ -10,9 +10,28 @@ use lib.ListN.{getD, take, drop}
 abbrev pub kindOf : ℕ → ℕ
 kindOf w = w / 2 ^ 30
 
+abbrev pub registerKind : ℕ
+registerKind = 1
+
+abbrev pub directKind : ℕ
+directKind = 2
+
+abbrev pub numberKind : ℕ
+numberKind = 3
+
 -- "The low 30 bits hold the instruction's number, the register .., the cell's index, or the number".
 abbrev pub contentOf : ℕ → ℕ
 contentOf w = w % 2 ^ 30
+
+-- "IAR 256, IRCR 257, SHR 258"
+abbrev pub iarNumber : ℕ
+iarNumber = 256
+
+abbrev pub ircrNumber : ℕ
+ircrNumber = 257
+
+abbrev pub shrNumber : ℕ
+shrNumber = 258
 
 -- A word of a kind, with its content.
 abbrev pub wordOf : (kind content : ℕ) → ℕ
@@ -27,17 +46,17 @@ numberBits (negsuc n) = 2 ^ 30 - suc n
 abbrev pub numberOf : ℕ → ℤ
 numberOf v = cond (ltb v (2 ^ 29)) (pos v) (negsuc (2 ^ 30 - suc v))
 
--- An argument. A special register has its number: "IAR 256, IRCR 257, SHR 258".
+-- An argument. A special register has its number.
 pub data Argument : Type 0 where
   register special direct : ℕ → Argument
   literal : ℤ → Argument
 
 -- The word of an argument.
 abbrev pub argumentWord : Argument → ℕ
-argumentWord (register r) = wordOf 1 r
-argumentWord (special r) = wordOf 1 r
-argumentWord (direct d) = wordOf 2 d
-argumentWord (literal z) = wordOf 3 (numberBits z)
+argumentWord (register r) = wordOf registerKind r
+argumentWord (special r) = wordOf registerKind r
+argumentWord (direct d) = wordOf directKind d
+argumentWord (literal z) = wordOf numberKind (numberBits z)
 
 -- Document 01's cell: "A cell is four consecutive words: a head and three arguments."
 pub record Cell : Type 0 where

@@ -2,6 +2,8 @@
 ghost use mathlib.Core.Path.{_≡_};
 ghost use Rattle.model.specs.Calls.{freshRecord};
 
+pub mod words;
+
 // K, N, S, B and T: bits of a cell, registers, data cells, directly addressed cells, instruction cells.
 pub struct Parameters {
     pub k: u32,
