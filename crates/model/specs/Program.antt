@@ -44,8 +44,11 @@ abbrev pub replyLines : Granted → List ℕ
 replyLines x = valueLines (take (x .reply .values) (x .slice)) ++ lastLines (x .reply .outcome) (x .reply .rec)
 
 -- "Its output slice has 4,096 values."
+abbrev pub sliceValues : ℕ
+sliceValues = 4096
+
 abbrev pub sliceCall : (cycles : ℕ) → Call
-sliceCall cycles = record { cycles = cycles; slice = replicate 4096 (pos 0) }
+sliceCall cycles = record { cycles = cycles; slice = replicate sliceValues (pos 0) }
 
 -- "grants .. then 0 after each full output": the lines from a grant of `cycles` on, over at most `grants` of them.
 unfoldable pub grantLines : Environment → (grants cycles : ℕ) → Held → List ℕ
