@@ -8,9 +8,9 @@ use lib.Dec.{eqb, leb, ltb}
 use lib.ListN.{length}
 use borrow.Author.Tests.{ne-eqb, le-leb, lt-leb, leb-true, lt-ltb, le-ltb}
 use Rattle.model.specs.declared.Parameters.{Parameters}
-use Rattle.model.specs.Parameters.{between, limit, inRange, Fit}
-use Rattle.model.specs.Words.{Cell, kindOf, contentOf, numberOf}
-use Rattle.model.specs.Instructions.{rowOf}
+use Rattle.model.specs.Parameters.{between, limit, maxRegisters, inRange, Fit}
+use Rattle.model.specs.Words.{Cell, kindOf, registerKind, directKind, numberKind, contentOf, iarNumber, shrNumber, numberOf}
+use Rattle.model.specs.Instructions.{instructionCount, rowOf}
 use Rattle.model.specs.Load.{allows, isWithin}
 use Rattle.model.specs.Images.{registerFits, wordFits, wordsFit, cellFits}
 use Rattle.model.proofs.Fits.{both, is-between, limits}
@@ -23,40 +23,40 @@ pub is-limit : (p : Parameters) {m : ℕ} → Fit p → m ≡ limit (p .k) → I
 is-limit p f e = let l = limits p f in record { k = p .k; low = l .k-low; high = l .k-high; is = e }
 
 -- A REGISTER
-module _ (p : Parameters) (form r : ℕ) (few : p .n ≤ 256) where
+module _ (p : Parameters) (form r : ℕ) (few : p .n ≤ maxRegisters) where
   pub register-below : r < p .n → eqb (form % 2) 1 ≡ registerFits p form r
   unfolding allows isWithin
-  register-below h = rw (lt-leb 256 r (omega arith), lt-ltb r (p .n) h) (sym (and-true (eqb (form % 2) 1)))
+  register-below h = rw (lt-leb iarNumber r (omega arith), lt-ltb r (p .n) h) (sym (and-true (eqb (form % 2) 1)))
 
-  pub register-missing : p .n ≤ r → r < 256 → false ≡ registerFits p form r
+  pub register-missing : p .n ≤ r → r < iarNumber → false ≡ registerFits p form r
   unfolding allows isWithin
-  register-missing l h = rw (lt-leb 256 r h, le-ltb r (p .n) l) (sym (and-false (eqb (form % 2) 1)))
+  register-missing l h = rw (lt-leb iarNumber r h, le-ltb r (p .n) l) (sym (and-false (eqb (form % 2) 1)))
 
-  pub register-beyond : p .n ≤ r → 256 ≤ r → 258 < r → false ≡ registerFits p form r
+  pub register-beyond : p .n ≤ r → iarNumber ≤ r → shrNumber < r → false ≡ registerFits p form r
   unfolding allows isWithin
-  register-beyond l k h = rw (le-leb 256 r k, lt-leb r 258 h, le-ltb r (p .n) l) (sym (and-false (eqb (form % 2) 1)))
+  register-beyond l k h = rw (le-leb iarNumber r k, lt-leb r shrNumber h, le-ltb r (p .n) l) (sym (and-false (eqb (form % 2) 1)))
 
-  pub register-special : 256 ≤ r → r ≤ 258 → eqb (form / 2 % 2) 1 ≡ registerFits p form r
+  pub register-special : iarNumber ≤ r → r ≤ shrNumber → eqb (form / 2 % 2) 1 ≡ registerFits p form r
   unfolding allows isWithin
-  register-special k h = rw (le-leb 256 r k, le-leb r 258 h)
+  register-special k h = rw (le-leb iarNumber r k, le-leb r shrNumber h)
 
 -- A WORD, by its kind.
 module _ (p : Parameters) (form w : ℕ) where
-  pub register-word : kindOf w ≡ 1 → wordFits p form w ≡ registerFits p form (contentOf w)
+  pub register-word : kindOf w ≡ registerKind → wordFits p form w ≡ registerFits p form (contentOf w)
   unfolding wordFits allows isWithin
   register-word e = rw e
 
-  pub direct-word : kindOf w ≡ 2 → wordFits p form w ≡ (eqb (form / 4 % 2) 1 && ltb (contentOf w) (p .b))
+  pub direct-word : kindOf w ≡ directKind → wordFits p form w ≡ (eqb (form / 4 % 2) 1 && ltb (contentOf w) (p .b))
   unfolding wordFits allows isWithin
   direct-word e = rw e
 
-  pub number-word : kindOf w ≡ 3 → wordFits p form w ≡ (eqb (form / 8 % 2) 1 && inRange (limit (p .k)) (numberOf (contentOf w)))
+  pub number-word : kindOf w ≡ numberKind → wordFits p form w ≡ (eqb (form / 8 % 2) 1 && inRange (limit (p .k)) (numberOf (contentOf w)))
   unfolding wordFits allows isWithin
   number-word e = rw e
 
-  pub other-word : ¬ (kindOf w ≡ 1) → ¬ (kindOf w ≡ 2) → ¬ (kindOf w ≡ 3) → wordFits p form w ≡ false
+  pub other-word : ¬ (kindOf w ≡ registerKind) → ¬ (kindOf w ≡ directKind) → ¬ (kindOf w ≡ numberKind) → wordFits p form w ≡ false
   unfolding wordFits
-  other-word a b d = rw (ne-eqb (kindOf w) 1 a, ne-eqb (kindOf w) 2 b, ne-eqb (kindOf w) 3 d)
+  other-word a b d = rw (ne-eqb (kindOf w) registerKind a, ne-eqb (kindOf w) directKind b, ne-eqb (kindOf w) numberKind d)
 
 -- THE PLACES. Forms that a packed number can hold: at most three, and none 0.
 abbrev pub arePacked : List ℕ → Bool
@@ -105,13 +105,13 @@ module _ (p : Parameters) (c : Cell) where
   unfolding cellFits
   cell-low h = rw (lt-leb 1 (c .head) h)
 
-  pub cell-high : 1 ≤ c .head → 54 < c .head → cellFits p c ≡ false
+  pub cell-high : 1 ≤ c .head → instructionCount < c .head → cellFits p c ≡ false
   unfolding cellFits
-  cell-high l h = rw (le-leb 1 (c .head) l, lt-leb (c .head) 54 h)
+  cell-high l h = rw (le-leb 1 (c .head) l, lt-leb (c .head) instructionCount h)
 
-  pub cell-between : 1 ≤ c .head → c .head ≤ 54 → cellFits p c ≡ placesFit p (packed (rowOf (c .head) .forms)) (c .first) (c .second) (c .third)
+  pub cell-between : 1 ≤ c .head → c .head ≤ instructionCount → cellFits p c ≡ placesFit p (packed (rowOf (c .head) .forms)) (c .first) (c .second) (c .third)
   unfolding cellFits
   cell-between l h =
       let fs = rowOf (c .head) .forms in
       let k = both (leb (length fs) 3) (arePacked fs) (rows-packable (c .head)) in
-      rw (le-leb 1 (c .head) l, le-leb (c .head) 54 h) (words-fit p (c .first) (c .second) (c .third) fs (leb-true (length fs) 3 (k .0)) (k .1))
+      rw (le-leb 1 (c .head) l, le-leb (c .head) instructionCount h) (words-fit p (c .first) (c .second) (c .third) fs (leb-true (length fs) 3 (k .0)) (k .1))

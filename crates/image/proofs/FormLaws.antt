@@ -3,10 +3,10 @@ use Prim.Native.Nat.{ℕ, zero, suc, _-_}
 use mathlib.Core.Path.{_≡_, refl}
 use native.Mathlib.Omega.{arith}
 use lib.ListN.{length, getD, List·getD-map}
-use Rattle.model.specs.Instructions.{Row, rows, rowOf}
+use Rattle.model.specs.Instructions.{Row, rows, instructionCount, rowOf}
 use Rattle.image.specs.Forms.{packed, formTable}
 
-pub table-length : length formTable ≡ 54
+pub table-length : length formTable ≡ instructionCount
 unfolding formTable
 table-length = refl
 

@@ -2,17 +2,23 @@
 ghost use mathlib.Core.Path.{_≡_};
 ghost use Prim.Native.Nat.{_≤_};
 ghost use lib.ListN.{length};
-ghost use Rattle.model.specs.Parameters.{limit, Fit};
+ghost use Rattle.model.specs.Parameters.{limit, maxRegisters, Fit};
 ghost use Rattle.model.specs.Words.{cellOf, isEmpty};
 ghost use Rattle.model.specs.Images.{registerFits, wordFits, cellFits};
 ghost use Rattle.image.specs.Forms.{formTable};
 ghost use Rattle.image.specs.Decode.{instructionOf, cellFrom, placeFits, placesFit, decodedOf};
+use crate::forms::INSTRUCTIONS;
 use crate::forms::forms_of;
 use crate::words::content;
 use crate::words::kind;
 use crate::words::number;
 use cells::ranges::in_range;
 use model::Parameters;
+use model::words::DIRECT;
+use model::words::IAR;
+use model::words::NUMBER;
+use model::words::REGISTER;
+use model::words::SHR;
 
 // An instruction's number and the words of its arguments; an absent one is 0.
 pub struct Instruction {
@@ -42,18 +48,18 @@ pub fn read_cell(cell: &[u32]) -> Instruction
     }
 }
 
-// A register at a place of this form: R0 to R(N-1), or one of the special registers 256 to 258.
+// A register at a place of this form: R0 to R(N-1), or one of the special registers.
 fn register_fits(p: Parameters, form: u32, index: u32) -> bool
-    requires { ⌜ p .n ≤ 256 ⌝ }
+    requires { ⌜ p .n ≤ maxRegisters ⌝ }
     ensures { λ r. ⌜ r ≡ registerFits p form index ⌝ }
 {
     if index < p.n {
         return form % 2 == 1;
     }
-    if index < 256 {
+    if index < IAR {
         return false;
     }
-    if 258 < index {
+    if SHR < index {
         return false;
     }
     form / 2 % 2 == 1
@@ -67,9 +73,9 @@ fn word_fits(p: Parameters, m: u32, form: u32, w: u32) -> bool
 {
     let k = kind(w);
     match k {
-        1 => register_fits(p, form, content(w)),
-        2 => form / 4 % 2 == 1 && content(w) < p.b,
-        3 => form / 8 % 2 == 1 && in_range(m, number(w)),
+        REGISTER => register_fits(p, form, content(w)),
+        DIRECT => form / 4 % 2 == 1 && content(w) < p.b,
+        NUMBER => form / 8 % 2 == 1 && in_range(m, number(w)),
         _ => false,
     }
 }
@@ -112,7 +118,7 @@ fn cell_fits(p: Parameters, m: u32, forms: &[u32], i: Instruction) -> bool
     if number < 1 {
         return false;
     }
-    if 54 < number {
+    if INSTRUCTIONS < number {
         return false;
     }
     arguments_fit(p, m, forms_of(forms, number), i)
