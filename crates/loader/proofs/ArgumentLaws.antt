@@ -13,9 +13,9 @@ use lib.Seq.{drop-cons}
 use lib.Signed.{mag, ltZ}
 use borrow.Author.Tests.{eq-eqb, ne-eqb, lt-ltb, le-ltb, ltb-true}
 use Rattle.model.specs.declared.Parameters.{Parameters}
-use Rattle.model.specs.Parameters.{limit, inRange}
+use Rattle.model.specs.Parameters.{limit, maxCells, inRange}
 use Rattle.model.specs.Numbers.{bytes, upper, mapped, natural, number}
-use Rattle.model.specs.Words.{Argument, register, special, direct, literal, argumentWord, wordOf, numberBits}
+use Rattle.model.specs.Words.{Argument, register, special, direct, literal, argumentWord, registerKind, directKind, numberKind, iarNumber, ircrNumber, shrNumber, wordOf, numberBits}
 use Rattle.model.specs.Load.{sameWord, specialOf, afterD, plain, argument, fine, fault, allows, isWithin, placed}
 use Rattle.cells.proofs.Integers.{sub-ge}
 use Rattle.numbers.specs.declared.reading.Reading.{Reading}
@@ -27,23 +27,23 @@ use Rattle.loader.specs.Places.{placedOf, indexedOf}
 
 -- THE FIRST LETTERS
 pub special-choice : (w : List ℕ) →
-    specialOf w ≡ cond (sameWord w (bytes "IAR")) 256 (cond (sameWord w (bytes "IRCR")) 257 (cond (sameWord w (bytes "SHR")) 258 0))
+    specialOf w ≡ cond (sameWord w (bytes "IAR")) iarNumber (cond (sameWord w (bytes "IRCR")) ircrNumber (cond (sameWord w (bytes "SHR")) shrNumber 0))
 unfolding specialOf
 special-choice w = go (sameWord w (bytes "IAR")) (sameWord w (bytes "IRCR")) (sameWord w (bytes "SHR"))
   where
     go : (a b c : Bool) →
         _≡_ {A = ℕ}
-        (elim a as (λ x. ℕ) [ true ↦ 256 | false ↦ elim b as (λ x. ℕ) [ true ↦ 257 | false ↦ elim c as (λ x. ℕ) [ true ↦ 258 | false ↦ 0 ] ] ])
-        (cond a 256 (cond b 257 (cond c 258 0)))
+        (elim a as (λ x. ℕ) [ true ↦ iarNumber | false ↦ elim b as (λ x. ℕ) [ true ↦ ircrNumber | false ↦ elim c as (λ x. ℕ) [ true ↦ shrNumber | false ↦ 0 ] ] ])
+        (cond a iarNumber (cond b ircrNumber (cond c shrNumber 0)))
     go true b c = refl
     go false true c = refl
     go false false true = refl
     go false false false = refl
 
-pub special-high : (w : List ℕ) → specialOf w ≤ 258
+pub special-high : (w : List ℕ) → specialOf w ≤ shrNumber
 special-high w = rw (special-choice w) (go (sameWord w (bytes "IAR")) (sameWord w (bytes "IRCR")) (sameWord w (bytes "SHR")))
   where
-    go : (a b c : Bool) → cond a 256 (cond b 257 (cond c 258 0)) ≤ 258
+    go : (a b c : Bool) → cond a iarNumber (cond b ircrNumber (cond c shrNumber 0)) ≤ shrNumber
     go true b c = omega arith
     go false true c = omega arith
     go false false true = omega arith
@@ -106,7 +106,7 @@ barred p form make h none = refl
 barred p form make h (some a) = simp (h a)
 
 -- A register or a cell: what is lost above the cap is no index below the count.
-module _ (p : Parameters) (form kind count : ℕ) (make : ℕ → Argument) (few : count ≤ 4096) where
+module _ (p : Parameters) (form kind count : ℕ) (make : ℕ → Argument) (few : count ≤ maxCells) where
   index-placed : ((v : ℕ) → allows form (make v) ≡ true) → ((v : ℕ) → isWithin p (make v) ≡ ltb v count) →
       ((v : ℕ) → argumentWord (make v) ≡ wordOf kind v) → (o : Option ℕ) → indexedOf kind count (capped o) ≡ placedOf (placed p form (mapped make o))
   index-placed a i e none = refl
@@ -122,7 +122,7 @@ module _ (p : Parameters) (form kind count : ℕ) (make : ℕ → Argument) (few
 -- What is read as a number, at a place that allows one.
 abbrev pub numbered : Reading → Placed
 numbered NotANumber = Fault 13
-numbered (Number z) = Word (wordOf 3 (numberBits z))
+numbered (Number z) = Word (wordOf numberKind (numberBits z))
 numbered Outside = Fault 14
 
 module _ (p : Parameters) (form : ℕ) where
@@ -130,25 +130,25 @@ module _ (p : Parameters) (form : ℕ) where
   unfolding allows
   register-barred h o = barred p form register (λ v. ne-eqb _ _ h) o
 
-  pub register-placed : form % 2 ≡ 1 → p .n ≤ 4096 → (o : Option ℕ) →
-      indexedOf 1 (p .n) (capped o) ≡ placedOf (placed p form (mapped register o))
+  pub register-placed : form % 2 ≡ 1 → p .n ≤ maxCells → (o : Option ℕ) →
+      indexedOf registerKind (p .n) (capped o) ≡ placedOf (placed p form (mapped register o))
   unfolding allows isWithin
-  register-placed h l o = index-placed p form 1 (p .n) register l (λ v. eq-eqb _ _ h) (λ v. refl) (λ v. refl) o
+  register-placed h l o = index-placed p form registerKind (p .n) register l (λ v. eq-eqb _ _ h) (λ v. refl) (λ v. refl) o
 
   pub direct-barred : ¬ (form / 4 % 2 ≡ 1) → (o : Option ℕ) → placed p form (mapped direct o) ≡ fault 13
   unfolding allows
   direct-barred h o = barred p form direct (λ v. ne-eqb _ _ h) o
 
-  pub direct-placed : form / 4 % 2 ≡ 1 → p .b ≤ 4096 → (o : Option ℕ) →
-      indexedOf 2 (p .b) (capped o) ≡ placedOf (placed p form (mapped direct o))
+  pub direct-placed : form / 4 % 2 ≡ 1 → p .b ≤ maxCells → (o : Option ℕ) →
+      indexedOf directKind (p .b) (capped o) ≡ placedOf (placed p form (mapped direct o))
   unfolding allows isWithin
-  direct-placed h l o = index-placed p form 2 (p .b) direct l (λ v. eq-eqb _ _ h) (λ v. refl) (λ v. refl) o
+  direct-placed h l o = index-placed p form directKind (p .b) direct l (λ v. eq-eqb _ _ h) (λ v. refl) (λ v. refl) o
 
   pub special-barred : ¬ (form / 2 % 2 ≡ 1) → (r : ℕ) → placed p form (some (special r)) ≡ fault 13
   unfolding allows
   special-barred h r = simp (ne-eqb _ _ h)
 
-  pub special-placed : form / 2 % 2 ≡ 1 → (r : ℕ) → placed p form (some (special r)) ≡ fine (wordOf 1 r)
+  pub special-placed : form / 2 % 2 ≡ 1 → (r : ℕ) → placed p form (some (special r)) ≡ fine (wordOf registerKind r)
   unfolding allows isWithin
   special-placed h r = simp h
 
@@ -161,7 +161,7 @@ module _ (p : Parameters) (form : ℕ) where
   number-placed h none = refl
   number-placed h (some z) = simp h (go (inRange (limit (p .k)) z))
     where
-      go : (b : Bool) → numbered (cond b (Number z) Outside) ≡ placedOf (cond b (fine (wordOf 3 (numberBits z))) (fault 14))
+      go : (b : Bool) → numbered (cond b (Number z) Outside) ≡ placedOf (cond b (fine (wordOf numberKind (numberBits z))) (fault 14))
       go true = refl
       go false = refl
 
@@ -170,10 +170,10 @@ module _ (p : Parameters) (form : ℕ) where
   number-read h e o q = ap numbered q ∙ ap (λ (m : ℕ). numbered (readingOf m o)) e ∙ number-placed h o
 
 -- The word of a number, as the code works it out.
-pub word-negative : (z : ℤ) → ltZ z (pos 0) ≡ true → mag z < 2 ^ 29 → pos 4294967296 +ℤ z ≡ pos (wordOf 3 (numberBits z))
+pub word-negative : (z : ℤ) → ltZ z (pos 0) ≡ true → mag z < 2 ^ 29 → pos (2 ^ 32) +ℤ z ≡ pos (wordOf numberKind (numberBits z))
 word-negative (pos n) t h = let l : n < 0 = ltb-true n 0 t in absurd (omega arith)
-word-negative (negsuc n) t h = sub-ge 4294967296 (suc n) (omega arith) ∙ ap pos (omega arith)
+word-negative (negsuc n) t h = sub-ge (2 ^ 32) (suc n) (omega arith) ∙ ap pos (omega arith)
 
-pub word-positive : (z : ℤ) → ltZ z (pos 0) ≡ false → mag z < 2 ^ 29 → (z ≡ pos (natAbs z)) × (3221225472 + natAbs z ≡ wordOf 3 (numberBits z))
+pub word-positive : (z : ℤ) → ltZ z (pos 0) ≡ false → mag z < 2 ^ 29 → (z ≡ pos (natAbs z)) × (wordOf numberKind 0 + natAbs z ≡ wordOf numberKind (numberBits z))
 word-positive (pos n) t h = (refl, omega arith)
 word-positive (negsuc n) t h = absurd (true≢false t)

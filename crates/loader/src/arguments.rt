@@ -3,18 +3,29 @@ ghost use mathlib.Core.Path.{_≡_};
 ghost use Prim.Native.Nat.{_<_, _≤_, _^_};
 ghost use lib.ListN.{drop};
 ghost use lib.Signed.{mag};
-ghost use Rattle.model.specs.Parameters.{limit, Fit};
+ghost use Rattle.model.specs.Parameters.{limit, maxCells, Fit};
 ghost use Rattle.model.specs.Numbers.{mapped, natural, number};
-ghost use Rattle.model.specs.Words.{wordOf, numberBits, register, literal};
+ghost use Rattle.model.specs.Words.{directKind, numberKind, wordOf, numberBits, register, literal};
 ghost use Rattle.model.specs.Load.{specialOf, afterD, argument, placed};
 ghost use Rattle.loader.specs.Places.{indexedOf, placedOf};
 use crate::names::same_word;
 use model::Parameters;
+use model::words::DIRECT;
+use model::words::FIRST_NUMBER;
+use model::words::FIRST_REGISTER;
+use model::words::IAR;
+use model::words::IRCR;
+use model::words::KIND;
+use model::words::REGISTER;
+use model::words::SHR;
 use numbers::reading::Digits;
 use numbers::reading::Reading;
 use numbers::reading::read_digits;
 use numbers::reading::read_number;
 use text::bytes::upper;
+
+// The words of 32 bits.
+const WORDS: i64 = 0x1_0000_0000;
 
 // The word of an argument, or its fault: 13 or 14.
 pub enum Placed {
@@ -27,27 +38,27 @@ fn special(w: &[u8]) -> u32
     ensures { λ r. ⌜ r ≡ specialOf (now (w .entry)) ⌝ }
 {
     if same_word(w, b"IAR") {
-        return 256;
+        return IAR;
     }
     if same_word(w, b"IRCR") {
-        return 257;
+        return IRCR;
     }
     if same_word(w, b"SHR") {
-        return 258;
+        return SHR;
     }
     0
 }
 
 // The word of this kind for the index that the digits say, of those below the count.
 fn indexed(kind: u32, count: u32, d: Digits) -> Placed
-    requires { ⌜ (kind ≤ 2) × (count ≤ 4096) ⌝ }
+    requires { ⌜ (kind ≤ directKind) × (count ≤ maxCells) ⌝ }
     ensures { λ r. ⌜ r ≡ indexedOf kind count d ⌝ }
 {
     match d {
         Digits::Invalid => Placed::Fault(13),
         Digits::Value(v) => {
             if v < count as u64 {
-                Placed::Word(kind * 1073741824 + v as u32)
+                Placed::Word(kind * KIND + v as u32)
             } else {
                 Placed::Fault(14)
             }
@@ -61,7 +72,7 @@ fn register_word(w: &[u8], form: u32, p: Parameters) -> Placed
     ensures { λ r. ⌜ r ≡ placedOf (placed p form (mapped register (natural (drop 1 (now (w .entry)))))) ⌝ }
 {
     if form % 2 == 1 {
-        return indexed(1, p.n, read_digits(w, 1));
+        return indexed(REGISTER, p.n, read_digits(w, 1));
     }
     Placed::Fault(13)
 }
@@ -78,7 +89,7 @@ fn direct_word(w: &[u8], form: u32, p: Parameters) -> Placed
         return Placed::Fault(13);
     }
     if form / 4 % 2 == 1 {
-        return indexed(2, p.b, read_digits(w, 2));
+        return indexed(DIRECT, p.b, read_digits(w, 2));
     }
     Placed::Fault(13)
 }
@@ -86,12 +97,12 @@ fn direct_word(w: &[u8], form: u32, p: Parameters) -> Placed
 // The word of a number.
 fn literal_word(z: i32) -> u32
     requires { ⌜ mag z < 2 ^ 29 ⌝ }
-    ensures { λ r. ⌜ r ≡ wordOf 3 (numberBits z) ⌝ }
+    ensures { λ r. ⌜ r ≡ wordOf numberKind (numberBits z) ⌝ }
 {
     if z < 0 {
-        return (4294967296 + z as i64) as u32;
+        return (WORDS + z as i64) as u32;
     }
-    3221225472 + z as u32
+    FIRST_NUMBER + z as u32
 }
 
 // A number.
@@ -130,7 +141,7 @@ pub fn argument_word(w: &[u8], form: u32, p: Parameters, m: u32) -> Placed
         return number_word(w, form, p, m);
     }
     if form / 2 % 2 == 1 {
-        return Placed::Word(1073741824 + r);
+        return Placed::Word(FIRST_REGISTER + r);
     }
     Placed::Fault(13)
 }

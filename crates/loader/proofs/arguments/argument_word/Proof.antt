@@ -4,7 +4,7 @@ use mathlib.Core.Option.{Option}
 use native.Mathlib.Omega.{arith}
 use borrow.Author.Needs.{needs}
 use denote.Ref.{now}
-use Rattle.model.specs.Words.{Argument, wordOf}
+use Rattle.model.specs.Words.{Argument, wordOf, registerKind}
 use Rattle.model.specs.Load.{specialOf, placed}
 use Rattle.loader.specs.declared.arguments.Placed.the-variants.{Word}
 use Rattle.loader.specs.Places.{placedOf}
@@ -55,7 +55,7 @@ returns-5 c =
     let at = c .before .before in
     let a = at .before .before .before .before .before .before .before .args in
     let w = now (a .w) in
-    ap Word (ap (wordOf 1) (at .special .ensures))
+    ap Word (ap (wordOf registerKind) (at .special .ensures))
     ∙ sym (ap placedOf (special-placed (a .p) (a .form) (c .if5 .taken) (specialOf w)))
     ∙ sym (ap (λ (o : Option Argument). placedOf (placed (a .p) (a .form) o)) (argument-special w (λ q. c .before .if4 .left (at .special .ensures ∙ q))))
 

@@ -8,24 +8,24 @@ use mir.Facts.{toZ-ofZ}
 use mir.Val.{SFits}
 use mir.Syntax.{w64}
 use Rattle.cells.proofs.Integers.{cast-fits, cast-same}
-use Rattle.model.specs.Words.{wordOf, numberBits}
+use Rattle.model.specs.Words.{numberKind, wordOf, numberBits}
 use Rattle.loader.proofs.ArgumentLaws.{word-negative, word-positive}
 use Rattle.loader.proofs.arguments.literal_word.Statement.{statement}
 use Rattle.loader.proofs.arguments.literal_word.Tie as tie
 
 -- A negative number and one that is not, as their words.
-negative : (c : tie.Then1) → pos 4294967296 +ℤ c .before .args .z ≡ pos (wordOf 3 (numberBits (c .before .args .z)))
+negative : (c : tie.Then1) → pos (2 ^ 32) +ℤ c .before .args .z ≡ pos (wordOf numberKind (numberBits (c .before .args .z)))
 negative c = word-negative (c .before .args .z) (rw (toZ-ofZ (c .before .fits .z)) at (c .if1 .taken)) (c .before .pre)
 
 positive : (c : tie.Else1) →
-    (c .before .args .z ≡ pos (natAbs (c .before .args .z))) × (3221225472 + natAbs (c .before .args .z) ≡ wordOf 3 (numberBits (c .before .args .z)))
+    (c .before .args .z ≡ pos (natAbs (c .before .args .z))) × (wordOf numberKind 0 + natAbs (c .before .args .z) ≡ wordOf numberKind (numberBits (c .before .args .z)))
 positive c = word-positive (c .before .args .z) (rw (toZ-ofZ (c .before .fits .z)) at (c .if1 .left)) (c .before .pre)
 
-bits : (z : ℤ) → mag z < 2 ^ 29 → wordOf 3 (numberBits z) < 2 ^ 32
+bits : (z : ℤ) → mag z < 2 ^ 29 → wordOf numberKind (numberBits z) < 2 ^ 32
 bits (pos n) h = omega arith
 bits (negsuc n) h = omega arith
 
-word-fits : (c : tie.Then1) → SFits w64 (pos (wordOf 3 (numberBits (c .before .args .z))))
+word-fits : (c : tie.Then1) → SFits w64 (pos (wordOf numberKind (numberBits (c .before .args .z))))
 word-fits c = record { sfits = omega (arith, bits (c .before .args .z) (c .before .pre)) }
 
 cast-result : tie.Need-cast-result

@@ -9,7 +9,7 @@ use denote.Ref.{now}
 use mir.Facts.{toZ-ofZ}
 use mir.Syntax.{w32}
 use mir.Val.{SFits}
-use Rattle.model.specs.Words.{wordOf, numberBits}
+use Rattle.model.specs.Words.{wordOf, numberBits, numberKind}
 use Rattle.numbers.proofs.ReadingLaws.{reading-range}
 use Rattle.loader.specs.declared.arguments.Placed.the-variants.{Word}
 use Rattle.model.specs.Numbers.{number}
@@ -67,7 +67,7 @@ returns-4 c =
     let r = c .before .before in
     let at = r .before .before in
     let s = at .before .before .before in
-    ap Word (c .literal-word .ensures ∙ ap (λ (z : ℤ). wordOf 3 (numberBits z)) (toZ-ofZ (number-fits r)))
+    ap Word (c .literal-word .ensures ∙ ap (λ (z : ℤ). wordOf numberKind (numberBits z)) (toZ-ofZ (number-fits r)))
     ∙ ap numbered (sym (r .r .given .1))
     ∙ number-read (s .args .p) (s .args .form) (at .before .if1 .left) (s .pre .1) (number (now (s .args .w))) (at .read-number .ensures .0)
 
