@@ -4,6 +4,7 @@ use mathlib.Core.List.{List}
 use lib.IntN.{ℤ, pos, _-ℤ_}
 use lib.ListN.{length}
 use Rattle.model.specs.Step.{Memory, State}
+use Rattle.model.specs.Parameters.{maxRegisters, maxCells, maxInstructions}
 use Rattle.operands.specs.declared.Core.{Core}
 
 -- The state of document 01's machine: SHR is top - 1.
@@ -17,7 +18,7 @@ stateIn c m = stateOf c (m .registers) (m .cells)
 
 -- Bounds that do for a read. A record that fits has them.
 pub record Bounded (c : Core) (registers : List ℤ) : Type 0 where
-  pub iar : c .iar ≤ 4096
+  pub iar : c .iar ≤ maxInstructions
   pub ircr : c .ircr ≤ 3
-  pub top : c .top ≤ 4096
-  pub register-count : length registers ≤ 256
+  pub top : c .top ≤ maxCells
+  pub register-count : length registers ≤ maxRegisters

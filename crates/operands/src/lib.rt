@@ -7,6 +7,12 @@ ghost use Rattle.model.specs.Step.{registerValue, valueOf};
 ghost use Rattle.operands.specs.Cores.{stateOf, Bounded};
 use image::words::content;
 use image::words::number;
+use model::words::FIRST_DIRECT;
+use model::words::FIRST_NUMBER;
+use model::words::FIRST_REGISTER;
+use model::words::IAR;
+use model::words::IRCR;
+use model::words::SHR;
 
 // IAR, IRCR, the input place, and `top`, which is SHR + 1 and so never negative.
 pub struct Core {
@@ -22,9 +28,9 @@ fn special_value(index: u32, at: Core) -> i32
     ensures { λ r. ⌜ r ≡ registerValue (stateOf at [] []) index ⌝ }
 {
     match index {
-        256 => at.iar as i32,
-        257 => at.ircr as i32,
-        258 => (at.top as i32) - 1,
+        IAR => at.iar as i32,
+        IRCR => at.ircr as i32,
+        SHR => (at.top as i32) - 1,
         _ => 0,
     }
 }
@@ -46,13 +52,13 @@ fn other_value(w: u32, at: Core, cells: &[i32]) -> i32
     requires { ⌜ Bounded at [] ⌝ }
     ensures { λ r. ⌜ r ≡ valueOf (stateOf at [] (now (cells .entry))) w ⌝ }
 {
-    if 0xC000_0000 <= w {
+    if FIRST_NUMBER <= w {
         return number(w);
     }
-    if 0x8000_0000 <= w {
+    if FIRST_DIRECT <= w {
         return cell_value(content(w), cells);
     }
-    if 0x4000_0000 <= w {
+    if FIRST_REGISTER <= w {
         return special_value(content(w), at);
     }
     0
@@ -63,7 +69,7 @@ pub fn read(w: u32, at: Core, registers: &[i32], cells: &[i32]) -> i32
     requires { ⌜ Bounded at (now registers) ⌝ }
     ensures { λ r. ⌜ r ≡ valueOf (stateOf at (now (registers .entry)) (now (cells .entry))) w ⌝ }
 {
-    let r = std::num::wrapping_sub_u32(w, 0x4000_0000) as usize;
+    let r = std::num::wrapping_sub_u32(w, FIRST_REGISTER) as usize;
     if r < registers.len() {
         return registers[r];
     }
