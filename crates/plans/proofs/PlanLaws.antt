@@ -15,7 +15,7 @@ use mir.Val.{Fits, SFits}
 use Rattle.model.specs.Arithmetic.{Answer, code}
 use Rattle.model.specs.Numbers.{number}
 use Rattle.model.specs.Step.{blanksOf, tokenOf, inputNumber, inputAnswer}
-use Rattle.model.specs.Words.{wordOf}
+use Rattle.model.specs.Words.{wordOf, registerKind, directKind, shrNumber}
 use Rattle.operands.specs.declared.Core.{Core}
 use Rattle.text.proofs.Parts.{part-length}
 use Rattle.text.specs.Parts.{part}
@@ -56,13 +56,13 @@ module _ (w : ℕ) (v : ℤ) (s : ℕ) (c : Core) where
   unfolding pushPlan
   push-full e = rw (eq-eqb (c .top) s e)
 
-  pub push-head : ¬ (c .top ≡ s) → w ≡ wordOf 1 258 → writtenPlan (wordOf 2 (c .top)) (pos (c .top)) (withTop (c .top + 1) c) ≡ pushPlan w v s c
+  pub push-head : ¬ (c .top ≡ s) → w ≡ wordOf registerKind shrNumber → writtenPlan (wordOf directKind (c .top)) (pos (c .top)) (withTop (c .top + 1) c) ≡ pushPlan w v s c
   unfolding pushPlan
-  push-head n e = rw (ne-eqb (c .top) s n, eq-eqb w (wordOf 1 258) e)
+  push-head n e = rw (ne-eqb (c .top) s n, eq-eqb w (wordOf registerKind shrNumber) e)
 
-  pub push-value : ¬ (c .top ≡ s) → ¬ (w ≡ wordOf 1 258) → writtenPlan (wordOf 2 (c .top)) v (withTop (c .top + 1) c) ≡ pushPlan w v s c
+  pub push-value : ¬ (c .top ≡ s) → ¬ (w ≡ wordOf registerKind shrNumber) → writtenPlan (wordOf directKind (c .top)) v (withTop (c .top + 1) c) ≡ pushPlan w v s c
   unfolding pushPlan
-  push-value n e = rw (ne-eqb (c .top) s n, ne-eqb w (wordOf 1 258) e)
+  push-value n e = rw (ne-eqb (c .top) s n, ne-eqb w (wordOf registerKind shrNumber) e)
 
 module _ (w b : ℕ) (c : Core) (cs : List ℤ) where
   pub pop-empty : c .top ≡ b → failedPlan 1 c ≡ popPlan w b c cs

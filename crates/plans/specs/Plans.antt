@@ -9,7 +9,7 @@ use lib.Signed.{nonNeg}
 use Rattle.model.specs.Arithmetic.{Answer, value, code}
 use Rattle.model.specs.Parameters.{isBoolean}
 use Rattle.model.specs.Step.{State, withIRCR, blanksOf, tokenOf, inputAnswer}
-use Rattle.model.specs.Words.{kindOf, contentOf, wordOf}
+use Rattle.model.specs.Words.{kindOf, contentOf, wordOf, registerKind, directKind, shrNumber}
 use Rattle.arithmetic.specs.declared.Computed.{Computed}
 use Rattle.operands.specs.Cores.{stateOf}
 use Rattle.operands.specs.declared.Core.{Core}
@@ -18,11 +18,11 @@ use Rattle.plans.specs.declared.Plan.{Plan}
 -- WHAT A PLAN DOES
 -- The registers after it: cleared by CLEAR_REG, or with the value written.
 abbrev pub registersAfter : (to : ℕ) → ℤ → List ℤ → List ℤ
-registersAfter to v rs = cond (eqb to 1) (replicate (length rs) (pos 0)) (cond (eqb (kindOf to) 1) (set rs (contentOf to) v) rs)
+registersAfter to v rs = cond (eqb to 1) (replicate (length rs) (pos 0)) (cond (eqb (kindOf to) registerKind) (set rs (contentOf to) v) rs)
 
 -- The data cells after it: cleared by CLEAR_DATA_MEM, or with the value written.
 abbrev pub cellsAfter : (to : ℕ) → ℤ → List ℤ → List ℤ
-cellsAfter to v cs = cond (eqb to 2) (replicate (length cs) (pos 0)) (cond (eqb (kindOf to) 2) (set cs (contentOf to) v) cs)
+cellsAfter to v cs = cond (eqb to 2) (replicate (length cs) (pos 0)) (cond (eqb (kindOf to) directKind) (set cs (contentOf to) v) cs)
 
 -- The values that it writes to the output: those of DUMP_REG, DUMP_DATA_MEM and OUT.
 abbrev pub valuesOf : (to : ℕ) → ℤ → (registers cells : List ℤ) → List ℤ
@@ -83,7 +83,7 @@ movedTo n c = record { iar = c .iar; ircr = c .ircr; top = c .top; place = n }
 unfoldable pub pushPlan : (w : ℕ) → ℤ → (s : ℕ) → Core → Plan
 pushPlan w v s c =
     cond (eqb (c .top) s) (failedPlan 1 c)
-    (writtenPlan (wordOf 2 (c .top)) (cond (eqb w (wordOf 1 258)) (pos (c .top)) v) (withTop (c .top + 1) c))
+    (writtenPlan (wordOf directKind (c .top)) (cond (eqb w (wordOf registerKind shrNumber)) (pos (c .top)) v) (withTop (c .top + 1) c))
 
 -- "POP has code 1 if SHR = B-1": the stack's head is the cell at SHR, which is top - 1.
 unfoldable pub popPlan : (w b : ℕ) → Core → List ℤ → Plan

@@ -5,12 +5,18 @@ ghost use lib.IntN.{pos};
 ghost use lib.ListN.{length};
 ghost use Rattle.cells.specs.Cells.{IsLimit};
 ghost use Rattle.plans.specs.Plans.{keptPlan, failedPlan, writtenPlan, settledPlan, jumpPlan, takenPlan, booleanPlan, pushPlan, popPlan, inputPlan};
+ghost use Rattle.model.specs.Parameters.{maxCells, maxInstructions};
 use arithmetic::Computed;
 use logic::booleans::is_boolean;
+use model::words::FIRST_DIRECT;
+use model::words::FIRST_REGISTER;
+use model::words::SHR;
 use numbers::reading::Reading;
 use numbers::reading::read_number;
 use operands::Core;
 use text::tokens::next_token;
+
+const SHR_WORD: u32 = FIRST_REGISTER + SHR;
 
 // A value, where it goes, and where the machine stands after the step. A failing step has its code in `next.ircr`, and nothing else counts.
 // `to` is the word of a register or data cell; or 0, nothing; or the number of CLEAR_REG, CLEAR_DATA_MEM, DUMP_REG, DUMP_DATA_MEM or OUT.
@@ -22,7 +28,7 @@ pub struct Plan {
 
 // A value goes somewhere, and IAR is raised.
 pub fn put(to: u32, value: i32, at: Core) -> Plan
-    requires { ⌜ at .iar ≤ 4096 ⌝ }
+    requires { ⌜ at .iar ≤ maxInstructions ⌝ }
     ensures { λ r. ⌜ r ≡ writtenPlan to value at ⌝ }
 {
     Plan {
@@ -39,7 +45,7 @@ pub fn put(to: u32, value: i32, at: Core) -> Plan
 
 // IAR is raised, and no more.
 pub fn keep(at: Core) -> Plan
-    requires { ⌜ at .iar ≤ 4096 ⌝ }
+    requires { ⌜ at .iar ≤ maxInstructions ⌝ }
     ensures { λ r. ⌜ r ≡ keptPlan at ⌝ }
 {
     put(0, 0, at)
@@ -63,7 +69,7 @@ pub fn fail(code: u32, at: Core) -> Plan
 
 // The value of a computation goes somewhere, or its code is set. Without a choice here IAR does not wait for the value.
 pub fn settle(to: u32, answer: Computed, at: Core) -> Plan
-    requires { ⌜ at .iar ≤ 4096 ⌝ }
+    requires { ⌜ at .iar ≤ maxInstructions ⌝ }
     ensures { λ r. ⌜ r ≡ settledPlan to answer at ⌝ }
 {
     let mut plan = put(to, answer.value, at);
@@ -96,7 +102,7 @@ pub fn jump(t: u32, target: i32, at: Core) -> Plan
 
 // A jump that is taken or not.
 pub fn jump_when(taken: bool, t: u32, target: i32, at: Core) -> Plan
-    requires { ⌜ at .iar ≤ 4096 ⌝ }
+    requires { ⌜ at .iar ≤ maxInstructions ⌝ }
     ensures { λ r. ⌜ r ≡ takenPlan taken t target at ⌝ }
 {
     if taken {
@@ -107,7 +113,7 @@ pub fn jump_when(taken: bool, t: u32, target: i32, at: Core) -> Plan
 
 // The same, where the value tested has to be Boolean.
 pub fn jump_boolean(value: i32, taken: bool, t: u32, target: i32, at: Core) -> Plan
-    requires { ⌜ at .iar ≤ 4096 ⌝ }
+    requires { ⌜ at .iar ≤ maxInstructions ⌝ }
     ensures { λ r. ⌜ r ≡ booleanPlan value taken t target at ⌝ }
 {
     if is_boolean(value) {
@@ -118,7 +124,7 @@ pub fn jump_boolean(value: i32, taken: bool, t: u32, target: i32, at: Core) -> P
 
 // SKIP.
 pub fn skip(t: u32, at: Core) -> Plan
-    requires { ⌜ at .iar ≤ 4096 ⌝ }
+    requires { ⌜ at .iar ≤ maxInstructions ⌝ }
     ensures { λ r. ⌜ r ≡ jumpPlan t (pos (at .iar + 2)) at ⌝ }
 {
     jump(t, (at.iar as i32) + 2, at)
@@ -126,7 +132,7 @@ pub fn skip(t: u32, at: Core) -> Plan
 
 // PUSH of the word w, which says `value`. The raised SHR is `top`, and that is what SHR says then.
 pub fn push(w: u32, value: i32, s: u32, at: Core) -> Plan
-    requires { ⌜ (at .iar ≤ 4096) × (at .top ≤ 4096) ⌝ }
+    requires { ⌜ (at .iar ≤ maxInstructions) × (at .top ≤ maxCells) ⌝ }
     ensures { λ r. ⌜ r ≡ pushPlan w value s at ⌝ }
 {
     let top = at.top;
@@ -139,8 +145,8 @@ pub fn push(w: u32, value: i32, s: u32, at: Core) -> Plan
         top: top + 1,
         place: at.place,
     };
-    let to = 0x8000_0000 + (top as u32);
-    if w == 0x4000_0102 {
+    let to = FIRST_DIRECT + (top as u32);
+    if w == SHR_WORD {
         return put(to, top as i32, raised);
     }
     put(to, value, raised)
@@ -148,7 +154,7 @@ pub fn push(w: u32, value: i32, s: u32, at: Core) -> Plan
 
 // POP to the word w.
 pub fn pop(w: u32, b: u32, at: Core, cells: &[i32]) -> Plan
-    requires { ⌜ (at .iar ≤ 4096) × (b ≤ at .top) × (at .top ≤ length (now cells)) ⌝ }
+    requires { ⌜ (at .iar ≤ maxInstructions) × (b ≤ at .top) × (at .top ≤ length (now cells)) ⌝ }
     ensures { λ r. ⌜ r ≡ popPlan w b at (now (cells .entry)) ⌝ }
 {
     let top = at.top;
@@ -168,7 +174,7 @@ pub fn pop(w: u32, b: u32, at: Core, cells: &[i32]) -> Plan
 // IN to the word w.
 pub fn input(w: u32, m: u32, at: Core, bytes: &[u8]) -> Plan
     requires { ⌜ IsLimit m ⌝ }
-    requires { ⌜ (at .iar ≤ 4096) × (at .place ≤ length (now bytes)) ⌝ }
+    requires { ⌜ (at .iar ≤ maxInstructions) × (at .place ≤ length (now bytes)) ⌝ }
     ensures { λ r. ⌜ r ≡ inputPlan w m at (now (bytes .entry)) ⌝ }
 {
     let token = next_token(bytes, at.place);
