@@ -9,7 +9,7 @@ use lib.IntN.{ℤ}
 use lib.ListN.{length, set}
 use lib.Seq.{set-out}
 use borrow.Author.Tests.{eq-eqb, ne-eqb, eqb-true}
-use Rattle.model.specs.Words.{kindOf, contentOf}
+use Rattle.model.specs.Words.{kindOf, contentOf, registerKind, directKind}
 use Rattle.plans.specs.Plans.{registersAfter, cellsAfter, valuesOf}
 use Rattle.effects.specs.Effects.{outputAfter}
 
@@ -40,29 +40,29 @@ module _ (kind to place : ℕ) (few : kind < 4) (behind : (place + kind * 2 ^ 30
 
 -- A WORD OF A REGISTER OR CELL, with its places behind the first register's and the first cell's.
 module _ {to : ℕ} (v : ℤ) (rs cs : List ℤ) (high : 6 < to) where
-  registers-stored : registersAfter to v rs ≡ stored 1 to v rs
+  registers-stored : registersAfter to v rs ≡ stored registerKind to v rs
   registers-stored = rw (ne-eqb to 1 (λ e. omega arith))
 
-  cells-stored : cellsAfter to v cs ≡ stored 2 to v cs
+  cells-stored : cellsAfter to v cs ≡ stored directKind to v cs
   cells-stored = rw (ne-eqb to 2 (λ e. omega arith))
 
-  module _ (r : ℕ) (register : (r + 2 ^ 30) % 2 ^ 32 ≡ to) where
+  module _ (r : ℕ) (register : (r + registerKind * 2 ^ 30) % 2 ^ 32 ≡ to) where
     pub write-register : r < length rs → length rs ≤ 2 ^ 30 → (set rs r v ≡ registersAfter to v rs) × (cs ≡ cellsAfter to v cs)
     write-register h l = (
-      stored-there 1 to r (omega arith) register v rs h l ∙ sym registers-stored,
-      sym (cells-stored ∙ rw (is-kind 1 to r (omega arith) register v rs (omega arith))),
+      stored-there registerKind to r (omega arith) register v rs h l ∙ sym registers-stored,
+      sym (cells-stored ∙ rw (is-kind registerKind to r (omega arith) register v rs (omega arith))),
     )
 
     module _ (small : r < 2 ^ 32) (past : length rs ≤ r) where
       registers-kept : rs ≡ registersAfter to v rs
-      registers-kept = stored-past 1 to r (omega arith) register v rs small past ∙ sym registers-stored
+      registers-kept = stored-past registerKind to r (omega arith) register v rs small past ∙ sym registers-stored
 
-      module _ (d : ℕ) (cell : (d + 2 ^ 31) % 2 ^ 32 ≡ to) where
+      module _ (d : ℕ) (cell : (d + directKind * 2 ^ 30) % 2 ^ 32 ≡ to) where
         pub write-cell : d < length cs → length cs ≤ 2 ^ 30 → (rs ≡ registersAfter to v rs) × (set cs d v ≡ cellsAfter to v cs)
-        write-cell h l = (registers-kept, stored-there 2 to d (omega arith) cell v cs h l ∙ sym cells-stored)
+        write-cell h l = (registers-kept, stored-there directKind to d (omega arith) cell v cs h l ∙ sym cells-stored)
 
         pub write-nowhere : d < 2 ^ 32 → length cs ≤ d → (rs ≡ registersAfter to v rs) × (cs ≡ cellsAfter to v cs)
-        write-nowhere b h = (registers-kept, stored-past 2 to d (omega arith) cell v cs b h ∙ sym cells-stored)
+        write-nowhere b h = (registers-kept, stored-past directKind to d (omega arith) cell v cs b h ∙ sym cells-stored)
 
   pub no-values : valuesOf to v rs cs ≡ []
   no-values = rw (ne-eqb to 3 (λ e. omega arith), ne-eqb to 4 (λ e. omega arith), ne-eqb to 6 (λ e. omega arith))

@@ -6,6 +6,8 @@ ghost use lib.IntN.{pos};
 ghost use lib.ListN.{length, replicate};
 ghost use Rattle.plans.specs.Plans.{registersAfter, cellsAfter, valuesOf};
 ghost use Rattle.effects.specs.Effects.{outputAfter, Indexed};
+use model::words::FIRST_DIRECT;
+use model::words::FIRST_REGISTER;
 use plans::Plan;
 
 // The values of a block.
@@ -73,12 +75,12 @@ fn write(to: u32, value: i32, registers: &mut [i32], cells: &mut [i32])
     ensures { λ _. ⌜ now (registers .exit) ≡ registersAfter to value (now (registers .entry)) ⌝ }
     ensures { λ _. ⌜ now (cells .exit) ≡ cellsAfter to value (now (cells .entry)) ⌝ }
 {
-    let register = std::num::wrapping_sub_u32(to, 0x4000_0000) as usize;
+    let register = std::num::wrapping_sub_u32(to, FIRST_REGISTER) as usize;
     if register < registers.len() {
         registers[register] = value;
         return;
     }
-    let cell = std::num::wrapping_sub_u32(to, 0x8000_0000) as usize;
+    let cell = std::num::wrapping_sub_u32(to, FIRST_DIRECT) as usize;
     if cell < cells.len() {
         cells[cell] = value;
     }
