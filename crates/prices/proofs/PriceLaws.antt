@@ -13,24 +13,24 @@ use mir.Syntax.{w64}
 use mir.Val.{Fits}
 use Rattle.model.specs.declared.Parameters.{Parameters}
 use Rattle.model.specs.Parameters.{between}
-use Rattle.model.specs.Words.{Cell, kindOf}
-use Rattle.model.specs.Instructions.{Operation, clearRegisters, clearCells, dumpRegisters, dumpCells, inputs, outputs, pushes, pops, skips, idles, writes, jumps, jumpsOn, Row, rows, rowOf, directs, times, costOf, isDirect}
+use Rattle.model.specs.Words.{Cell, kindOf, directKind}
+use Rattle.model.specs.Instructions.{Operation, clearRegisters, clearCells, dumpRegisters, dumpCells, inputs, outputs, pushes, pops, skips, idles, writes, jumps, jumpsOn, Row, rows, rowOf, directs, times, costOf, isDirect, instructionCount}
 use Rattle.model.specs.Images.{wordFits, wordsFit, cellFits}
 use Rattle.model.specs.Step.{State, writtenBy}
 use Rattle.model.proofs.Fits.{both, by-cond, is-between}
-use Rattle.prices.specs.Prices.{priceTable, priceOf, valueCount}
+use Rattle.prices.specs.Prices.{priceTable, priceCount, priceOf, valueCount}
 use Rattle.image.proofs.FitLaws.{direct-word}
 use Rattle.image.proofs.RowLaws.{at-number}
 
 -- THE TABLE
-pub prices-length : length priceTable ≡ 61
+pub prices-length : length priceTable ≡ priceCount
 unfolding priceTable
 prices-length = refl
 
 -- No direct argument.
-pub price-none : (n : ℕ) → 1 ≤ n → n ≤ 54 → getD priceTable (n - 1) 0 ≡ priceOf n 0
+pub price-none : (n : ℕ) → 1 ≤ n → n ≤ instructionCount → getD priceTable (n - 1) 0 ≡ priceOf n 0
 unfolding priceTable rowOf
-price-none n l h = eqb-true _ _ (at-number (λ (k : ℕ). eqb (getD priceTable (k - 1) 0) (priceOf k 0)) 1 54 n refl l (omega arith))
+price-none n l h = eqb-true _ _ (at-number (λ (k : ℕ). eqb (getD priceTable (k - 1) 0) (priceOf k 0)) 1 instructionCount n refl l (omega arith))
 
 -- One, or two, where the row has such a price.
 abbrev forOne : ℕ → Bool
@@ -52,7 +52,7 @@ price-two n d l h less two =
     rw e (eqb-true _ _ (k .1))
 
 -- Prices that are not multiplied, and those that are, by N or by S.
-times-one : (p : Parameters) (n : ℕ) → 5 ≤ n → n ≤ 54 → times p (rowOf n .multiplier) ≡ 1
+times-one : (p : Parameters) (n : ℕ) → 5 ≤ n → n ≤ instructionCount → times p (rowOf n .multiplier) ≡ 1
 unfolding rowOf
 times-one p n l h = eqb-true _ _ (at-number (λ (k : ℕ). eqb (times p (rowOf k .multiplier)) 1) 5 50 n refl l (omega arith))
 
@@ -82,7 +82,7 @@ product-fits {a} {b} h k =
 
 -- DIRECT ARGUMENTS. No more of them than places that allow one, and a price for each count.
 pub direct-small : (w : ℕ) → isDirect w ≤ 1
-direct-small w = by-cond (λ (x : ℕ). x ≤ 1) (eqb (kindOf w) 2) 1 0 (λ h. omega arith) (λ h. omega arith)
+direct-small w = by-cond (λ (x : ℕ). x ≤ 1) (eqb (kindOf w) directKind) 1 0 (λ h. omega arith) (λ h. omega arith)
 
 abbrev directWords : List ℕ → ℕ
 directWords [] = 0
@@ -94,8 +94,8 @@ directForms (f ∷ fs) = f / 4 % 2 + directForms fs
 
 direct-allowed : (p : Parameters) (f w : ℕ) → wordFits p f w ≡ true → isDirect w ≤ f / 4 % 2
 direct-allowed p f w h =
-    by-cond (λ (x : ℕ). x ≤ f / 4 % 2) (eqb (kindOf w) 2) 1 0
-    (λ e. omega (arith, eqb-true (f / 4 % 2) 1 (both (eqb (f / 4 % 2) 1) _ (sym (direct-word p f w (eqb-true (kindOf w) 2 e)) ∙ h) .0)))
+    by-cond (λ (x : ℕ). x ≤ f / 4 % 2) (eqb (kindOf w) directKind) 1 0
+    (λ e. omega (arith, eqb-true (f / 4 % 2) 1 (both (eqb (f / 4 % 2) 1) _ (sym (direct-word p f w (eqb-true (kindOf w) directKind e)) ∙ h) .0)))
     (λ e. omega arith)
 
 directs-allowed : (p : Parameters) (fs ws : List ℕ) → wordsFit p fs ws ≡ true → directWords ws ≤ directForms fs
@@ -110,26 +110,26 @@ directs-allowed p (f ∷ fs) (w ∷ ws) h =
     let k = both (wordFits p f w) (wordsFit p fs ws) h in
     omega (arith, direct-allowed p f w (k .0), directs-allowed p fs ws (k .1))
 
-price-count : (n : ℕ) → 1 ≤ n → n ≤ 54 → length (rowOf n .prices) ≡ suc (directForms (rowOf n .forms))
+price-count : (n : ℕ) → 1 ≤ n → n ≤ instructionCount → length (rowOf n .prices) ≡ suc (directForms (rowOf n .forms))
 unfolding rowOf
 price-count n l h =
-    eqb-true _ _ (at-number (λ (k : ℕ). eqb (length (rowOf k .prices)) (suc (directForms (rowOf k .forms)))) 1 54 n refl l (omega arith))
+    eqb-true _ _ (at-number (λ (k : ℕ). eqb (length (rowOf k .prices)) (suc (directForms (rowOf k .forms)))) 1 instructionCount n refl l (omega arith))
 
-one-price : (n : ℕ) → 11 ≤ n → n ≤ 54 → length (rowOf n .prices) ≡ 1
+one-price : (n : ℕ) → 11 ≤ n → n ≤ instructionCount → length (rowOf n .prices) ≡ 1
 unfolding rowOf
 one-price n l h = eqb-true _ _ (at-number (λ (k : ℕ). eqb (length (rowOf k .prices)) 1) 11 44 n refl l (omega arith))
 
 -- THE COST of a cell that fits.
 module _ (p : Parameters) (c : Cell) (fits : cellFits p c ≡ true) where
-  pub is-number : (1 ≤ c .head) × (c .head ≤ 54)
+  pub is-number : (1 ≤ c .head) × (c .head ≤ instructionCount)
   unfolding cellFits
-  is-number = is-between 1 54 (c .head) (both (between 1 54 (c .head)) _ fits .0)
+  is-number = is-between 1 instructionCount (c .head) (both (between 1 instructionCount (c .head)) _ fits .0)
 
   pub directs-priced : directs c < length (rowOf (c .head) .prices)
   unfolding cellFits directs
   directs-priced =
       let ws = c .first ∷ c .second ∷ c .third ∷ [] in
-      let k = both (between 1 54 (c .head)) (wordsFit p (rowOf (c .head) .forms) ws) fits in
+      let k = both (between 1 instructionCount (c .head)) (wordsFit p (rowOf (c .head) .forms) ws) fits in
       omega (arith, directs-allowed p (rowOf (c .head) .forms) ws (k .1), price-count (c .head) (is-number .0) (is-number .1))
 
   module _ {price : ℕ} (e : price ≡ priceOf (c .head) (directs c)) where
@@ -149,16 +149,16 @@ module _ (p : Parameters) (c : Cell) (fits : cellFits p c ≡ true) where
 -- VALUES
 pub values-none : (p : Parameters) (n : ℕ) → ¬ (n ≡ 3) → ¬ (n ≡ 4) → ¬ (n ≡ 6) → valueCount p (rowOf n .operation) ≡ 0
 unfolding rowOf
-values-none p n a b d = go (decLt 54 n)
+values-none p n a b d = go (decLt instructionCount n)
   where
     test : ℕ → Bool
     test k = eqb k 3 || (eqb k 4 || (eqb k 6 || eqb (valueCount p (rowOf k .operation)) 0))
 
-    over : (k : ℕ) → 54 < k → valueCount p (rowOf k .operation) ≡ 0
+    over : (k : ℕ) → instructionCount < k → valueCount p (rowOf k .operation) ≡ 0
     over zero l = absurd (omega arith)
     over (suc k) l = ap (λ (r : Row). valueCount p (r .operation)) (List·getD-eq-default rows _ {n = k} (omega arith))
 
-    go : Dec (54 < n) → valueCount p (rowOf n .operation) ≡ 0
+    go : Dec (instructionCount < n) → valueCount p (rowOf n .operation) ≡ 0
     go (yes l) = over n l
     go (no l) = eqb-true _ _ (rw (ne-eqb n 3 a, ne-eqb n 4 b, ne-eqb n 6 d) at (at-number test 0 55 n refl (omega arith) (omega arith)))
 

@@ -13,6 +13,9 @@ pricesFor mode rs = map (λ (r : Row). getD (r .prices) mode 1) rs
 unfoldable pub priceTable : List ℕ
 priceTable = pricesFor 0 rows ++ (pricesFor 1 (take 6 (drop 4 rows)) ++ pricesFor 2 (take 1 (drop 6 rows)))
 
+abbrev pub priceCount : ℕ
+priceCount = 61
+
 -- An instruction's price for this many direct arguments, as in `costOf` of model.
 abbrev pub priceOf : (number mode : ℕ) → ℕ
 priceOf n mode = getD (rowOf n .prices) mode 1

@@ -6,13 +6,17 @@ ghost use lib.ListN.{length, getD};
 ghost use Rattle.model.specs.Instructions.{rowOf, directs, costOf, isDirect};
 ghost use Rattle.model.specs.Images.{cellFits};
 ghost use Rattle.image.specs.Decode.{cellFrom};
-ghost use Rattle.prices.specs.Prices.{priceTable, priceOf, valueCount};
+ghost use Rattle.prices.specs.Prices.{priceTable, priceCount, priceOf, valueCount};
 use image::decode::Instruction;
 use image::words::kind;
 use model::Parameters;
+use model::words::DIRECT;
+
+// How many prices the table has.
+pub const ENTRIES: usize = 61;
 
 // By number, from 1 on, for no direct argument; then for one, IN, OUT, MOV, SET, PUSH and POP; then for two, MOV.
-const PRICES: [u32; 61] = [
+const PRICES: [u32; ENTRIES] = [
     1,
     5,
     51,
@@ -77,7 +81,7 @@ const PRICES: [u32; 61] = [
 ];
 
 // The table.
-pub fn price_table() -> [u32; 61]
+pub fn price_table() -> [u32; ENTRIES]
     ensures { λ r. ⌜ r ≡ priceTable ⌝ }
 {
     PRICES
@@ -87,7 +91,7 @@ pub fn price_table() -> [u32; 61]
 fn direct(w: u32) -> u32
     ensures { λ r. ⌜ r ≡ isDirect w ⌝ }
 {
-    if kind(w) == 2 {
+    if kind(w) == DIRECT {
         return 1;
     }
     0
@@ -105,7 +109,7 @@ fn price_place(i: Instruction) -> usize
     requires { ⌜ (1 ≤ i .number) × (i .number ≤ 10) ⌝ }
     requires { ⌜ directs (cellFrom i) < length (rowOf (i .number) .prices) ⌝ }
     ensures { λ r. ⌜ getD priceTable r 0 ≡ priceOf (i .number) (directs (cellFrom i)) ⌝ }
-    ensures within { λ r. ⌜ r < 61 ⌝ }
+    ensures within { λ r. ⌜ r < priceCount ⌝ }
 {
     let mode = direct_arguments(i);
     if mode == 0 {
