@@ -5,7 +5,7 @@ use mathlib.Core.List.{List}
 use mathlib.Core.Path.{_≡_}
 use lib.IntN.{ℤ, pos}
 use lib.ListN.{length}
-use Rattle.model.specs.Instructions.{Operation, clearRegisters, clearCells, dumpRegisters, dumpCells, inputs, outputs, pushes, pops, skips, idles, writes, jumps, jumpsOn}
+use Rattle.model.specs.Instructions.{Operation, clearRegisters, clearCells, dumpRegisters, dumpCells, inputs, outputs, pushes, pops, skips, idles, writes, jumps, jumpsOn, instructionCount}
 use Rattle.model.specs.Parameters.{limit, isTrue}
 use Rattle.model.specs.Step.{valueOf, argumentAt}
 use Rattle.model.specs.Words.{Cell}
@@ -37,7 +37,7 @@ module _ (p : Parameters) (input : List ℕ) (at : Core) (registers cells : List
 -- What is known before a plan: an instruction's number, values in the range, and where the machine stands.
 pub record Choosable (number : ℕ) (p : Parameters) (m : ℕ) (x y : ℤ) (at : Core) (registers cells : List ℤ) (input : List ℕ) : Type 0 where
   pub from : 1 ≤ number
-  pub to : number ≤ 54
+  pub to : number ≤ instructionCount
   pub limit-is : m ≡ limit (p .k)
   pub is-limit : IsLimit m
   pub first : Within m x

@@ -10,7 +10,7 @@ use mir.Facts.{toZ-ofZ}
 use mir.Syntax.{w32}
 use mir.Val.{SFits, toZ, ofZ}
 use Rattle.model.specs.Arithmetic.{Answer, value}
-use Rattle.model.specs.Instructions.{Position, Operation, rowOf, writes, jumps, jumpsOn}
+use Rattle.model.specs.Instructions.{Position, Operation, rowOf, writes, jumps, jumpsOn, instructionCount}
 use Rattle.model.specs.Parameters.{limit, isTrue}
 use Rattle.model.specs.Step.{valueOf, argumentAt}
 use Rattle.arithmetic.specs.Answers.{computed}
@@ -51,8 +51,8 @@ module _ (s : tie.Start) where
   within = rw (toZ-ofZ (s .fits .x)) (s .pre .first)
 
   -- The last arm is never reached.
-  no-other : NoneTo (s .args .i .number) 54 → ⊥
-  no-other none = omega (arith, beyond (s .args .i .number) 54 none (s .pre .from), s .pre .to)
+  no-other : NoneTo (s .args .i .number) instructionCount → ⊥
+  no-other none = omega (arith, beyond (s .args .i .number) instructionCount none (s .pre .from), s .pre .to)
 
   -- The arm of row n; `q` is what the row says, by `refl`.
   module _ {n : ℕ} (e : s .args .i .number ≡ n) {r : Plan} where
