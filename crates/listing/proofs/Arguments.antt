@@ -12,7 +12,7 @@ use lib.Signed.{mag}
 use borrow.Author.Tests.{eqb-true, ne-eqb, ltb-true, lt-ltb, le-ltb, lt-leb}
 use Rattle.model.specs.declared.Parameters.{Parameters}
 use Rattle.model.specs.Parameters.{between, limit}
-use Rattle.model.specs.Words.{Argument, register, special, direct, literal, argumentWord, wordOf, kindOf, contentOf, numberBits, numberOf}
+use Rattle.model.specs.Words.{Argument, register, special, direct, literal, argumentWord, wordOf, kindOf, contentOf, numberBits, numberOf, registerKind, directKind, numberKind, iarNumber, ircrNumber, shrNumber}
 use Rattle.model.specs.Numbers.{bytes, upper, natural, mapped, number, decimal}
 use Rattle.model.specs.Load.{sameWord, specialOf, afterD, plain, argument, allows, isWithin, fine, fault, placed}
 use Rattle.model.specs.Images.{wordFits}
@@ -25,7 +25,7 @@ use Rattle.listing.proofs.Bytes.{isWord, word-plain, decimal-word}
 -- A special register is one of three.
 abbrev Named : Argument → Type 0
 Named (register r) = Unit {0}
-Named (special r) = between 256 258 r ≡ true
+Named (special r) = between iarNumber shrNumber r ≡ true
 Named (direct d) = Unit {0}
 Named (literal z) = Unit {0}
 
@@ -61,15 +61,15 @@ plain-argument (is-positive {s} l) = leading-argument s l
 plain-argument (is-negative {s} l) = number-argument 45 s (omega arith)
 
 -- What holds of 256, 257 and 258.
-one-of-three : (P : ℕ → Type 0) → P 256 → P 257 → P 258 → (r : ℕ) → between 256 258 r ≡ true → P r
-one-of-three P a b c r h = go (ℕ-discrete r 256) (ℕ-discrete r 257)
+one-of-three : (P : ℕ → Type 0) → P iarNumber → P ircrNumber → P shrNumber → (r : ℕ) → between iarNumber shrNumber r ≡ true → P r
+one-of-three P a b c r h = go (ℕ-discrete r iarNumber) (ℕ-discrete r ircrNumber)
   where
-    go : Dec (r ≡ 256) → Dec (r ≡ 257) → P r
+    go : Dec (r ≡ iarNumber) → Dec (r ≡ ircrNumber) → P r
     go (yes e) d = rw e a
     go (no n) (yes e) = rw e b
-    go (no n) (no m) = let k = is-between 256 258 r h in let e : r ≡ 258 = omega arith in rw e c
+    go (no n) (no m) = let k = is-between iarNumber shrNumber r h in let e : r ≡ shrNumber = omega arith in rw e c
 
-special-back : (r : ℕ) → between 256 258 r ≡ true → argument (specialText r) ≡ some (special r)
+special-back : (r : ℕ) → between iarNumber shrNumber r ≡ true → argument (specialText r) ≡ some (special r)
 unfolding argument specialOf sameWord
 special-back = one-of-three (λ r. argument (specialText r) ≡ some (special r)) refl refl refl
 
@@ -84,7 +84,7 @@ pub text-word : (a : Argument) → isWord (argumentText a) ≡ true
 text-word (register r) = word-plain (decimal (pos r)) (decimal-word (pos r))
 text-word (special r) =
     let word : List ℕ → Type 0 = λ w. isWord w ≡ true in
-    by-cond word (eqb r 256) _ _ (λ e. refl) (λ e. by-cond word (eqb r 257) _ _ (λ f. refl) (λ f. refl))
+    by-cond word (eqb r iarNumber) _ _ (λ e. refl) (λ e. by-cond word (eqb r ircrNumber) _ _ (λ f. refl) (λ f. refl))
 text-word (direct d) = word-plain (decimal (pos d)) (decimal-word (pos d))
 text-word (literal z) = decimal-word z
 
@@ -107,35 +107,35 @@ record Suits (p : Parameters) (form w : ℕ) (a : Argument) : Type 0 where
   word : argumentWord a ≡ w
 
 module _ (p : Parameters) (form w : ℕ) where
-  register-suits : kindOf w ≡ 1 → (b : Bool) → between 256 258 (contentOf w) ≡ b →
+  register-suits : kindOf w ≡ registerKind → (b : Bool) → between iarNumber shrNumber (contentOf w) ≡ b →
       cond b (allows form (special (contentOf w))) (isAccepted p form (register (contentOf w))) ≡ true →
       Suits p form w (cond b (special (contentOf w)) (register (contentOf w)))
   unfolding isWithin
   register-suits k true e h = record { named = e; accepted = and-both h refl; word = omega arith }
   register-suits k false e h = record { named = tt; accepted = h; word = omega arith }
 
-  direct-suits : kindOf w ≡ 2 → isAccepted p form (direct (contentOf w)) ≡ true → Suits p form w (direct (contentOf w))
+  direct-suits : kindOf w ≡ directKind → isAccepted p form (direct (contentOf w)) ≡ true → Suits p form w (direct (contentOf w))
   direct-suits k h = record { named = tt; accepted = h; word = omega arith }
 
-  literal-suits : kindOf w ≡ 3 → isAccepted p form (literal (numberOf (contentOf w))) ≡ true →
+  literal-suits : kindOf w ≡ numberKind → isAccepted p form (literal (numberOf (contentOf w))) ≡ true →
       Suits p form w (literal (numberOf (contentOf w)))
   literal-suits k h =
-      record { named = tt; accepted = h; word = ap (wordOf 3) (bits-back (contentOf w) (omega arith)) ∙ omega arith }
+      record { named = tt; accepted = h; word = ap (wordOf numberKind) (bits-back (contentOf w) (omega arith)) ∙ omega arith }
 
   word-suits : wordFits p form w ≡ true → Suits p form w (argumentOf w)
   unfolding wordFits
-  word-suits h = go (eqb (kindOf w) 1) (eqb (kindOf w) 2) refl refl h
+  word-suits h = go (eqb (kindOf w) registerKind) (eqb (kindOf w) directKind) refl refl h
     where
       registerFits : Bool
-      registerFits = cond (between 256 258 (contentOf w)) (allows form (special (contentOf w))) (isAccepted p form (register (contentOf w)))
+      registerFits = cond (between iarNumber shrNumber (contentOf w)) (allows form (special (contentOf w))) (isAccepted p form (register (contentOf w)))
 
-      go : (x y : Bool) → eqb (kindOf w) 1 ≡ x → eqb (kindOf w) 2 ≡ y →
+      go : (x y : Bool) → eqb (kindOf w) registerKind ≡ x → eqb (kindOf w) directKind ≡ y →
           cond x registerFits (cond y (isAccepted p form (direct (contentOf w)))
-          (eqb (kindOf w) 3 && isAccepted p form (literal (numberOf (contentOf w))))) ≡ true →
+          (eqb (kindOf w) numberKind && isAccepted p form (literal (numberOf (contentOf w))))) ≡ true →
           Suits p form w (cond x (registerOf (contentOf w)) (cond y (direct (contentOf w)) (literal (numberOf (contentOf w)))))
-      go true y e f h = register-suits (eqb-true (kindOf w) 1 e) (between 256 258 (contentOf w)) refl h
-      go false true e f h = direct-suits (eqb-true (kindOf w) 2 f) h
-      go false false e f h = let g = both (eqb (kindOf w) 3) _ h in literal-suits (eqb-true (kindOf w) 3 (g .0)) (g .1)
+      go true y e f h = register-suits (eqb-true (kindOf w) registerKind e) (between iarNumber shrNumber (contentOf w)) refl h
+      go false true e f h = direct-suits (eqb-true (kindOf w) directKind f) h
+      go false false e f h = let g = both (eqb (kindOf w) numberKind) _ h in literal-suits (eqb-true (kindOf w) numberKind (g .0)) (g .1)
 
   suits-placed : (a : Argument) → Suits p form w a → placed p form (argument (argumentText a)) ≡ fine w
   suits-placed a s =
@@ -175,14 +175,14 @@ plain-named (b ∷ s) = go (eqb (upper b) 82) (eqb (upper b) 68)
     go false true = after-named s
     go false false = mapped-named literal (λ z. tt) (number (b ∷ s))
 
-special-number : (w : List ℕ) → eqb (specialOf w) 0 ≡ false → between 256 258 (specialOf w) ≡ true
+special-number : (w : List ℕ) → eqb (specialOf w) 0 ≡ false → between iarNumber shrNumber (specialOf w) ≡ true
 unfolding specialOf
 special-number w = go (sameWord w (bytes "IAR")) (sameWord w (bytes "IRCR")) (sameWord w (bytes "SHR"))
   where
     number : (x y z : Bool) → ℕ
-    number x y z = elim x [ true ↦ 256 | false ↦ elim y [ true ↦ 257 | false ↦ elim z [ true ↦ 258 | false ↦ 0 ] ] ]
+    number x y z = elim x [ true ↦ iarNumber | false ↦ elim y [ true ↦ ircrNumber | false ↦ elim z [ true ↦ shrNumber | false ↦ 0 ] ] ]
 
-    go : (x y z : Bool) → eqb (number x y z) 0 ≡ false → between 256 258 (number x y z) ≡ true
+    go : (x y z : Bool) → eqb (number x y z) 0 ≡ false → between iarNumber shrNumber (number x y z) ≡ true
     go true y z h = refl
     go false true z h = refl
     go false false true h = refl
@@ -204,20 +204,20 @@ bits-number (negsuc n) h =
 
 -- A word of kind 1, 2 or 3.
 module _ (p : Parameters) (form w : ℕ) where
-  register-fits : (r : ℕ) → kindOf w ≡ 1 → contentOf w ≡ r → between 256 258 r ≡ false → isAccepted p form (register r) ≡ true →
+  register-fits : (r : ℕ) → kindOf w ≡ registerKind → contentOf w ≡ r → between iarNumber shrNumber r ≡ false → isAccepted p form (register r) ≡ true →
       wordFits p form w ≡ true
   unfolding wordFits
   register-fits r k e b h = simp (wordFits, k, e, b) h
 
-  special-fits : (r : ℕ) → kindOf w ≡ 1 → contentOf w ≡ r → between 256 258 r ≡ true → allows form (special r) ≡ true → wordFits p form w ≡ true
+  special-fits : (r : ℕ) → kindOf w ≡ registerKind → contentOf w ≡ r → between iarNumber shrNumber r ≡ true → allows form (special r) ≡ true → wordFits p form w ≡ true
   unfolding wordFits
   special-fits r k e b h = simp (wordFits, k, e, b) h
 
-  direct-fits : (d : ℕ) → kindOf w ≡ 2 → contentOf w ≡ d → isAccepted p form (direct d) ≡ true → wordFits p form w ≡ true
+  direct-fits : (d : ℕ) → kindOf w ≡ directKind → contentOf w ≡ d → isAccepted p form (direct d) ≡ true → wordFits p form w ≡ true
   unfolding wordFits
   direct-fits d k e h = simp (wordFits, k, e) h
 
-  literal-fits : (z : ℤ) → kindOf w ≡ 3 → numberOf (contentOf w) ≡ z → isAccepted p form (literal z) ≡ true → wordFits p form w ≡ true
+  literal-fits : (z : ℤ) → kindOf w ≡ numberKind → numberOf (contentOf w) ≡ z → isAccepted p form (literal z) ≡ true → wordFits p form w ≡ true
   unfolding wordFits
   literal-fits z k e h = simp (wordFits, k, e) h
 
@@ -238,24 +238,24 @@ module _ (p : Parameters) (limits : Limits p) (form : ℕ) where
   argument-fits (register r) n h =
       let l = ltb-true r (p .n) (both (allows form (register r)) _ h .1) in
       let small : r < 2 ^ 30 = omega arith in
-      let low : r < 256 = omega arith in
-      register-fits p form (wordOf 1 r) r (word-kind 1 r small) (word-content 1 r small) (simp (lt-leb 256 r low)) h
+      let low : r < iarNumber = omega arith in
+      register-fits p form (wordOf registerKind r) r (word-kind registerKind r small) (word-content registerKind r small) (simp (lt-leb iarNumber r low)) h
   argument-fits (special r) n h =
-      let b = is-between 256 258 r n in
+      let b = is-between iarNumber shrNumber r n in
       let small : r < 2 ^ 30 = omega arith in
-      special-fits p form (wordOf 1 r) r (word-kind 1 r small) (word-content 1 r small) n (both (allows form (special r)) true h .0)
+      special-fits p form (wordOf registerKind r) r (word-kind registerKind r small) (word-content registerKind r small) n (both (allows form (special r)) true h .0)
   argument-fits (direct d) n h =
       let l = ltb-true d (p .b) (both (allows form (direct d)) _ h .1) in
       let small : d < 2 ^ 30 = omega arith in
-      direct-fits p form (wordOf 2 d) d (word-kind 2 d small) (word-content 2 d small) h
+      direct-fits p form (wordOf directKind d) d (word-kind directKind d small) (word-content directKind d small) h
   argument-fits (literal z) n h =
       let low = limit-low (limits .k-low) in
       let high = limit-high (limits .k-high) in
       let m = range-mag (limit (p .k)) z (omega arith) (both (allows form (literal z)) _ h .1) in
       let l : mag z < 2 ^ 29 = omega arith in
       let small = bits-small z l in
-      let content = ap numberOf (word-content 3 (numberBits z) small) ∙ bits-number z l in
-      literal-fits p form (wordOf 3 (numberBits z)) z (word-kind 3 (numberBits z) small) content h
+      let content = ap numberOf (word-content numberKind (numberBits z) small) ∙ bits-number z l in
+      literal-fits p form (wordOf numberKind (numberBits z)) z (word-kind numberKind (numberBits z) small) content h
 
   -- What is accepted at a place fits there.
   pub placed-fits : (w : List ℕ) (x : ℕ) → placed p form (argument w) ≡ fine x → wordFits p form x ≡ true

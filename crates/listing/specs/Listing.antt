@@ -7,23 +7,23 @@ use lib.IntN.{pos}
 use lib.ListN.{length, take, drop}
 use Rattle.model.specs.declared.Parameters.{Parameters}
 use Rattle.model.specs.Parameters.{between}
-use Rattle.model.specs.Words.{Argument, register, special, direct, literal, Cell, cellOf, kindOf, contentOf, numberOf, isEmpty}
+use Rattle.model.specs.Words.{Argument, register, special, direct, literal, Cell, cellOf, kindOf, contentOf, numberOf, isEmpty, registerKind, directKind, iarNumber, ircrNumber, shrNumber}
 use Rattle.model.specs.Numbers.{bytes, decimal}
 use Rattle.model.specs.Instructions.{rowOf}
 
 -- "the register (0..N-1; IAR 256, IRCR 257, SHR 258)"
 abbrev pub registerOf : ℕ → Argument
-registerOf r = cond (between 256 258 r) (special r) (register r)
+registerOf r = cond (between iarNumber shrNumber r) (special r) (register r)
 
 -- The argument of a word: "1 register, 2 direct cell, 3 number".
 abbrev pub argumentOf : ℕ → Argument
 argumentOf w =
-    cond (eqb (kindOf w) 1) (registerOf (contentOf w))
-    (cond (eqb (kindOf w) 2) (direct (contentOf w)) (literal (numberOf (contentOf w))))
+    cond (eqb (kindOf w) registerKind) (registerOf (contentOf w))
+    (cond (eqb (kindOf w) directKind) (direct (contentOf w)) (literal (numberOf (contentOf w))))
 
 -- "IAR 256, IRCR 257, SHR 258"
 abbrev pub specialText : ℕ → List ℕ
-specialText r = cond (eqb r 256) (bytes "IAR") (cond (eqb r 257) (bytes "IRCR") (bytes "SHR"))
+specialText r = cond (eqb r iarNumber) (bytes "IAR") (cond (eqb r ircrNumber) (bytes "IRCR") (bytes "SHR"))
 
 -- "numbers and indexes without + or leading zeros and with any minus in front", "R or DM with digits"
 abbrev pub argumentText : Argument → List ℕ
