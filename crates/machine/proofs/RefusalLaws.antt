@@ -13,7 +13,7 @@ use Rattle.model.specs.Calls.{Held, asCall, shapeChecks, memoryFits, memoryChec
 use Rattle.model.specs.Grants.{Account}
 use Rattle.model.specs.Images.{imageFits}
 use Rattle.model.specs.Load.{lengthCheck}
-use Rattle.model.specs.Parameters.{Check, _unless_, refusalOf, parameterChecks, Fit}
+use Rattle.model.specs.Parameters.{Check, _unless_, refusalOf, parameterChecks, maxInput, maxGranted, Fit}
 use Rattle.model.specs.Step.{Environment, environmentOf, Memory, State}
 use Rattle.model.specs.declared.Parameters.{Parameters}
 use Rattle.machine.specs.Checks.{cyclesFit}
@@ -95,7 +95,7 @@ module _ (e : Environment) (held : Held) (cycles : ℕ) where
   abbrev recordAndCycles : List Check
   recordAndCycles =
       15 unless (recordFits e account)
-      ∷ 16 unless (leb (length (e .input)) 65536)
+      ∷ 16 unless (leb (length (e .input)) maxInput)
       ∷ 17 unless (cyclesFit (held .rec .granted) cycles)
       ∷ []
 
@@ -114,13 +114,13 @@ module _ (e : Environment) (held : Held) (cycles : ℕ) where
     by-record h = behind-start (rw h)
 
     module _ (fits : recordFits e account ≡ true) where
-      pub granted-limit : held .rec .granted ≤ 1_000_000_000_000_000
+      pub granted-limit : held .rec .granted ≤ maxGranted
       granted-limit = record-sound e account fits (start-accepted e (held .memory) passed .sized) .granted
 
-      pub by-input : 65536 < length (e .input) → Gives 16
+      pub by-input : maxInput < length (e .input) → Gives 16
       by-input h = behind-start (rw (fits, lt-leb _ _ h))
 
-      module _ (short : length (e .input) ≤ 65536) where
+      module _ (short : length (e .input) ≤ maxInput) where
         pub by-cycles : cyclesFit (held .rec .granted) cycles ≡ false → Gives 17
         by-cycles h = behind-start (rw (fits, le-leb _ _ short, h))
 

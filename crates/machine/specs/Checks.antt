@@ -6,7 +6,7 @@ use lib.Dec.{leb}
 use lib.IntN.{ℤ, pos, _-ℤ_}
 use lib.Signed.{leZ}
 use Rattle.model.specs.Calls.{asHeld, accountOf, recordTests}
-use Rattle.model.specs.Parameters.{allPass}
+use Rattle.model.specs.Parameters.{allPass, maxGrant, maxGranted}
 use Rattle.model.specs.declared.Record.{Record}
 
 -- SHR is B-1..S-1.
@@ -19,4 +19,4 @@ numbersFit r input = allPass (recordTests (r .parameters) input (accountOf (asHe
 
 -- What `grantChecks` of model asks of a grant's cycles.
 abbrev pub cyclesFit : (granted cycles : ℕ) → Bool
-cyclesFit granted cycles = leb cycles 1_000_000_000 && leb (granted + cycles) 1_000_000_000_000_000
+cyclesFit granted cycles = leb cycles maxGrant && leb (granted + cycles) maxGranted
