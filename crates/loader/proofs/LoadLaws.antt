@@ -10,7 +10,7 @@ use borrow.Author.Tests.{eq-eqb, ne-eqb, le-leb, lt-leb}
 use Rattle.model.specs.declared.Parameters.{Parameters}
 use Rattle.model.specs.declared.LoadReply.{LoadReply}
 use Rattle.model.specs.declared.LoadReply.the-variants.{Accepted, Refused}
-use Rattle.model.specs.Parameters.{Check, _unless_, refusalOf, parameterChecks, Fit}
+use Rattle.model.specs.Parameters.{Check, _unless_, refusalOf, parameterChecks, Fit, maxText}
 use Rattle.model.specs.Load.{lengthCheck, textReply, loadChecks, loadReply, imageAfter, loadNumbers, numbersOfLoad}
 use Rattle.model.proofs.Fits.{all-fit, parameters-numbered, refusal-first, refusal-later}
 use Rattle.model.proofs.LoadNumbers.{load-numbers}
@@ -33,7 +33,7 @@ module _ (p : Parameters) (text old : List ℕ) where
   passed e = simp (loadReply, e)
 
   abbrev own : List Check
-  own = lengthCheck p old ∷ 7 unless (leb (length text) 65536) ∷ []
+  own = lengthCheck p old ∷ 7 unless (leb (length text) maxText) ∷ []
 
   pub by-parameters : {r : ℕ} → r ≡ refusalOf (parameterChecks p) → ¬ (r ≡ 0) → Refused r 0 ≡ loadReply p text old
   unfolding loadChecks
@@ -47,10 +47,10 @@ module _ (p : Parameters) (text old : List ℕ) where
     pub by-length : ¬ (length old ≡ 4 * p .t) → Refused 6 0 ≡ loadReply p text old
     by-length h = refused 6 (λ e. absurd (omega arith)) (behind ∙ simp (ne-eqb _ _ h))
 
-    pub by-text : length old ≡ 4 * p .t → 65536 < length text → Refused 7 0 ≡ loadReply p text old
+    pub by-text : length old ≡ 4 * p .t → maxText < length text → Refused 7 0 ≡ loadReply p text old
     by-text e h = refused 7 (λ e. absurd (omega arith)) (behind ∙ simp (eq-eqb _ _ e, lt-leb _ _ h))
 
-    pub by-lines : length old ≡ 4 * p .t → length text ≤ 65536 → {r : LoadReply} → r ≡ textReply p text → r ≡ loadReply p text old
+    pub by-lines : length old ≡ 4 * p .t → length text ≤ maxText → {r : LoadReply} → r ≡ textReply p text → r ≡ loadReply p text old
     by-lines e h q = q ∙ sym (passed (behind ∙ simp (eq-eqb _ _ e, le-leb _ _ h)))
 
   -- The image of an accepted text is the one that a pass fills; that of a refused one stays.
