@@ -10,7 +10,7 @@ use mir.Facts.{toZ-pos, toZ-ofZ}
 use mir.Syntax.{w32, w64}
 use mir.Val.{Fits, SFits, toZ, ofZ}
 use Rattle.model.specs.declared.Record.{Record}
-use Rattle.tak.specs.Records.{numbersOf, Narrow}
+use Rattle.tak.specs.Records.{numbersOf, Narrow, recordLength}
 
 -- A store to every place of a list.
 pub sets-all : (l vs : List ℤ) → length l ≡ length vs → sets l 0 vs ≡ vs
@@ -62,5 +62,5 @@ stored-same r w f n i =
     ∷ toZ-pos w64 (n .spent) i
     ∷ []
 
-pub stores : (l : List ℤ) (r : Record) → length l ≡ 11 → Words r → SFits w64 (r .shr) → Narrow r → sets l 0 (stored r) ≡ numbersOf r
+pub stores : (l : List ℤ) (r : Record) → length l ≡ recordLength → Words r → SFits w64 (r .shr) → Narrow r → sets l 0 (stored r) ≡ numbersOf r
 stores l r h w f n = sets-all l (stored r) h ∙ stored-same r w f n

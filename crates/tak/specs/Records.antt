@@ -24,7 +24,11 @@ most64 = 18_446_744_073_709_551_615
 abbrev pub at : List ℤ → ℕ → ℤ
 at z i = getD z i (pos 0)
 
--- The record that eleven numbers are: K N S B T, IAR, IRCR, SHR, the input place, granted, spent.
+-- How many numbers a record is.
+abbrev pub recordLength : ℕ
+recordLength = 11
+
+-- The record that the numbers are: K N S B T, IAR, IRCR, SHR, the input place, granted, spent.
 abbrev pub recordFrom : List ℤ → Record
 recordFrom z =
     record {
@@ -37,7 +41,7 @@ recordFrom z =
       spent = held most64 (at z 10);
     }
 
--- The eleven numbers of a record.
+-- The numbers of a record, in that order.
 abbrev pub numbersOf : Record → List ℤ
 numbersOf r =
     pos (r .parameters .k)

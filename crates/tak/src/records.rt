@@ -1,7 +1,7 @@
 // A record as a lent slice of numbers.
 ghost use mathlib.Core.Path.{_≡_};
 ghost use lib.ListN.{length};
-ghost use Rattle.tak.specs.Records.{held, most32, most64, recordFrom, numbersOf, recordAfter, Narrow};
+ghost use Rattle.tak.specs.Records.{held, most32, most64, recordFrom, numbersOf, recordAfter, Narrow, recordLength};
 use model::Parameters;
 use model::Record;
 
@@ -55,7 +55,7 @@ fn held_long(z: i64) -> u64
 
 // The record that the numbers are.
 pub fn record_from(numbers: &[i64]) -> Record
-    requires { ⌜ length (now numbers) ≡ 11 ⌝ }
+    requires { ⌜ length (now numbers) ≡ recordLength ⌝ }
     ensures { λ r. ⌜ r ≡ recordFrom (now (numbers .entry)) ⌝ }
 {
     Record {
@@ -77,7 +77,7 @@ pub fn record_from(numbers: &[i64]) -> Record
 
 // Writes the numbers of a record.
 fn put_record(rec: Record, numbers: &mut [i64])
-    requires { ⌜ Narrow rec × (length (now numbers) ≡ 11) ⌝ }
+    requires { ⌜ Narrow rec × (length (now numbers) ≡ recordLength) ⌝ }
     ensures { λ _. ⌜ now (numbers .exit) ≡ numbersOf rec ⌝ }
 {
     let shr = rec.shr;
@@ -96,7 +96,7 @@ fn put_record(rec: Record, numbers: &mut [i64])
 
 // Writes the record of an accepted call; a refusal leaves the numbers.
 pub fn hand_back(refusal: u32, rec: Record, numbers: &mut [i64])
-    requires { ⌜ (refusal ≡ 0 → Narrow rec) × (length (now numbers) ≡ 11) ⌝ }
+    requires { ⌜ (refusal ≡ 0 → Narrow rec) × (length (now numbers) ≡ recordLength) ⌝ }
     ensures { λ _. ⌜ now (numbers .exit) ≡ recordAfter refusal rec (now (numbers .entry)) ⌝ }
 {
     if refusal == 0 {
