@@ -8,6 +8,7 @@ ghost use Prim.Native.Nat.{_≤_};
 ghost use lib.IntN.{pos, _-ℤ_};
 ghost use lib.Signed.{leZ};
 ghost use Rattle.model.specs.Calls.{asHeld, asCall, asStarted, asGranted, zeroRecord, accountOf, recordOf};
+ghost use Rattle.model.specs.Parameters.{maxCells, maxInstructions};
 ghost use Rattle.model.specs.Step.{Memory, asMemory, environmentOf};
 ghost use Rattle.operands.specs.Cores.{stateIn};
 ghost use Rattle.machine.specs.Contracts.{StartIs, GrantIs};
@@ -67,7 +68,7 @@ pub fn start(p: Parameters, image: &[u32], registers: &mut [i32], cells: &mut [i
 
 // Where the machine of a record stands.
 fn core_of(rec: Record) -> Core
-    requires { ⌜ (leZ (pos (rec .parameters .b) -ℤ pos 1) (rec .shr) ≡ true) × (leZ (rec .shr) (pos (rec .parameters .s) -ℤ pos 1) ≡ true) × (rec .parameters .s ≤ 4096) ⌝ }
+    requires { ⌜ (leZ (pos (rec .parameters .b) -ℤ pos 1) (rec .shr) ≡ true) × (leZ (rec .shr) (pos (rec .parameters .s) -ℤ pos 1) ≡ true) × (rec .parameters .s ≤ maxCells) ⌝ }
     ensures { λ r. ⌜ ((m : Memory) → stateIn r m ≡ accountOf (record { rec = rec; memory = m }) .state) ⌝ }
 {
     Core {
@@ -80,7 +81,7 @@ fn core_of(rec: Record) -> Core
 
 // The record of where it stands.
 fn record_of(p: Parameters, at: Core, granted: u64, spent: u64) -> Record
-    requires { ⌜ (at .iar ≤ 4096) × (at .top ≤ 4096) ⌝ }
+    requires { ⌜ (at .iar ≤ maxInstructions) × (at .top ≤ maxCells) ⌝ }
     ensures { λ r. ⌜ ((m : Memory) → r ≡ recordOf p (record { state = stateIn at m; granted = granted; spent = spent })) ⌝ }
 {
     Record {
