@@ -18,7 +18,7 @@ use Rattle.model.specs.Calls.{accountOf, started, Granted, granted, grantRefusa
 use Rattle.model.specs.Grants.{Call, accept, handBack}
 use Rattle.model.specs.Lines.{valueLines, endingLine, refusalLine}
 use Rattle.model.specs.Load.{loadReply, imageAfter}
-use Rattle.model.specs.Program.{isFull, lastLines, replyLines}
+use Rattle.model.specs.Program.{isFull, lastLines, replyLines, sliceValues}
 use Rattle.model.specs.Step.{Tak, environmentOf}
 use Rattle.model.specs.declared.Ending.{Ending}
 use Rattle.model.specs.declared.Ending.the-variants.{Failed, Ended, Paused, OutputFull}
@@ -29,6 +29,7 @@ use Rattle.model.specs.declared.Outcome.the-variants as outcome
 use Rattle.model.specs.declared.Parameters.{Parameters}
 use Rattle.model.specs.declared.Record.{Record}
 use Rattle.model.specs.declared.StartReply.{StartReply}
+use Rattle.model.specs.Parameters.{maxGrant}
 use Rattle.session.proofs.Pieces.{put-then, put-front}
 use Rattle.session.specs.Puts.{Put}
 use Rattle.session.proofs.Advance.{full-progress}
@@ -62,7 +63,7 @@ module _ (p : Parameters) (image : List ℕ) (registers₀ cells₀ : List ℤ) 
       }
 
   pub has-begun : s .refusal ≡ 0 →
-      BeginIs p image registers₀ cells₀ lines₀ (record { count = 0; more = true; rec = s .rec; cycles = 1_000_000_000 }) registers₁ cells₁ lines₀
+      BeginIs p image registers₀ cells₀ lines₀ (record { count = 0; more = true; rec = s .rec; cycles = maxGrant }) registers₁ cells₁ lines₀
   has-begun h =
       let none = sym number ∙ h in
       record {
@@ -146,7 +147,7 @@ pub reported : (image input : List ℕ) (r : Record) (cycles : ℕ) (registers�
     Put lines₀ 0 (valueLines (take (g .values) values₁)) lines at →
     Put lines at (lastLines (g .outcome) (g .rec)) lines₁ (t .count) →
     (t .more ≡ isFull (g .outcome)) × (t .rec ≡ g .rec) × (t .cycles ≡ 0) →
-    length values₀ ≡ 4096 →
+    length values₀ ≡ sliceValues →
     length values₁ ≡ length values₀ →
     ReportIs image input r cycles registers₀ cells₀ values₀ lines₀ t registers₁ cells₁ values₁ lines₁
 reported image input r cycles registers₀ cells₀ values₀ lines₀ {g} {values₁ = values₁} {t = t} is first last more room size =

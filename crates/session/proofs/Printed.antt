@@ -16,8 +16,8 @@ use Rattle.model.specs.Calls.{accountOf, Started, startChecks, started, Granted
 use Rattle.model.specs.Grants.{Call, accept, handBack}
 use Rattle.model.specs.Lines.{refusalLine}
 use Rattle.model.specs.Load.{imageOf, imageAfter, loadChecks, loadReply}
-use Rattle.model.specs.Parameters.{_unless_, refusalOf, parameterChecks, Fit}
-use Rattle.model.specs.Program.{isFull, replyLines, sliceCall, grantLines, startLines, printed}
+use Rattle.model.specs.Parameters.{_unless_, refusalOf, parameterChecks, Fit, maxRegisters, maxCells, maxInstructions, maxText, maxGrant}
+use Rattle.model.specs.Program.{isFull, replyLines, sliceValues, sliceCall, grantLines, startLines, printed}
 use Rattle.model.specs.Settings.{settings}
 use Rattle.model.specs.Step.{Environment, Tak, environmentOf}
 use Rattle.model.specs.declared.GrantReply.{GrantReply}
@@ -86,16 +86,16 @@ module _ (image input : List ℕ) (n cycles : ℕ) (r : Record) (registers cells
 
 -- From a record on whose cycles, with the next grant's, are more than spent by less than n.
 grants-print : (image input : List ℕ) {rec : Record} {cycles : ℕ} {registers cells values : List ℤ} {lines out : List ℕ} →
-    Grants image input rec cycles registers cells values lines out → length values ≡ 4096 →
+    Grants image input rec cycles registers cells values lines out → length values ≡ sliceValues →
     (n : ℕ) → rec .granted + cycles - rec .spent < n → out ≡ grantLines image input n cycles rec registers cells
 grants-print image input (last is more) size zero l = absurd (omega arith)
 grants-print image input (next is more rest) size zero l = absurd (omega arith)
 grants-print image input {rec} {cycles} {registers} {cells} {values} (last is more) size (suc n) l =
-    let a = alike image input rec registers cells cycles values (replicate 4096 (pos 0)) (size ∙ sym (length-replicate 4096 (pos 0))) in
+    let a = alike image input rec registers cells cycles values (replicate sliceValues (pos 0)) (size ∙ sym (length-replicate sliceValues (pos 0))) in
     let full = ap isFull (ap (λ (x : GrantReply). x .outcome) (sym (a .reply))) ∙ sym (is .more) ∙ more in
     shows-text (is .shows) ∙ a .lines ∙ sym (append-nil _) ∙ sym (lines-last image input n cycles rec registers cells full)
 grants-print image input {rec} {cycles} {registers} {cells} {values} (next is more rest) size (suc n) l =
-    let a = alike image input rec registers cells cycles values (replicate 4096 (pos 0)) (size ∙ sym (length-replicate 4096 (pos 0))) in
+    let a = alike image input rec registers cells cycles values (replicate sliceValues (pos 0)) (size ∙ sym (length-replicate sliceValues (pos 0))) in
     let full = ap isFull (ap (λ (x : GrantReply). x .outcome) (sym (a .reply))) ∙ sym (is .more) ∙ more in
     let on = is .progress more in
     let later = grants-print image input rest (is .size ∙ size) n (omega (arith, l, on .spends, on .within, on .granted, is .cycles)) in
@@ -106,13 +106,13 @@ grants-print image input {rec} {cycles} {registers} {cells} {values} (next is mo
 -- LOAD, THEN START
 module _ (p : Parameters) (fit : Fit p) {image : List ℕ} {registers cells : List ℤ} (sizes : Sizes p image registers cells) where
   words-count : length image ≡ 4 * p .t
-  words-count = sizes .words ∙ rw (le-leb (p .t) 4096 (limits p fit .t-high))
+  words-count = sizes .words ∙ rw (le-leb (p .t) maxInstructions (limits p fit .t-high))
 
   registers-count : length registers ≡ p .n
-  registers-count = sizes .register-count ∙ rw (le-leb (p .n) 256 (limits p fit .n-high))
+  registers-count = sizes .register-count ∙ rw (le-leb (p .n) maxRegisters (limits p fit .n-high))
 
   cells-count : length cells ≡ p .s
-  cells-count = sizes .cell-count ∙ rw (le-leb (p .s) 4096 (limits p fit .s-high))
+  cells-count = sizes .cell-count ∙ rw (le-leb (p .s) maxCells (limits p fit .s-high))
 
 -- The parameters' checks come first.
 parameters-refuse : (p : Parameters) (text old : List ℕ) (k : ℕ) → refusalOf (parameterChecks p) ≡ suc k → loadReply p text old ≡ load.Refused (suc k) 0
@@ -125,7 +125,7 @@ load-alike : (p : Parameters) (text image : List ℕ) {registers cells : List �
 unfolding loadReply loadChecks
 load-alike p text image sizes = go (refusalOf (parameterChecks p)) refl
   where
-    checks : (old : List ℕ) → loadChecks p text old ≡ parameterChecks p ++ (6 unless (eqb (length old) (4 * p .t)) ∷ 7 unless (leb (length text) 65536) ∷ [])
+    checks : (old : List ℕ) → loadChecks p text old ≡ parameterChecks p ++ (6 unless (eqb (length old) (4 * p .t)) ∷ 7 unless (leb (length text) maxText) ∷ [])
     checks old = refl
 
     go : (k : ℕ) → refusalOf (parameterChecks p) ≡ k → loadReply p text image ≡ loadReply p text (replicate (4 * p .t) 0)
@@ -185,7 +185,7 @@ start-stops image input s h = go (s .reply .refusal) refl
     go (suc k) e = rw e
 
 pub start-goes : (image input : List ℕ) (s : Started) → s .reply .refusal ≡ 0 →
-    startLines image input s ≡ grantLines image input 1_000_000_001 1_000_000_000 (s .reply .rec) (s .registers) (s .cells)
+    startLines image input s ≡ grantLines image input (suc maxGrant) maxGrant (s .reply .rec) (s .registers) (s .cells)
 start-goes image input s e = rw e
 
 -- THE RUN
@@ -231,7 +231,7 @@ module _ (par text input : List ℕ) where
               ∙ sym (start-stops (imageOf p text) input begun stops)
               ∙ sym (printed-loaded n (sym (load-alike p text image sizes) ∙ e))
 
-      granted-prints : r .more ≡ true → {values : List ℤ} → length values ≡ 4096 → {out : List ℕ} →
+      granted-prints : r .more ≡ true → {values : List ℤ} → length values ≡ sliceValues → {out : List ℕ} →
           Grants image₁ input (r .rec) (r .cycles) registers₁ cells₁ values lines₁ out → take (r .count) lines₁ ++ out ≡ printed par text input
       granted-prints more size {out} chain = go loaded refl (is .image) (is .by)
         where
@@ -245,7 +245,7 @@ module _ (par text input : List ℕ) where
               let fresh = b .rec ∙ start-fresh p image₁ registers cells none in
               let spent = ap (λ (x : Record). x .spent) fresh in
               let given = ap (λ (x : Record). x .granted) fresh in
-              let lines = grants-print image₁ input chain size 1_000_000_001 (omega (arith, first, spent, given)) in
+              let lines = grants-print image₁ input chain size (suc maxGrant) (omega (arith, first, spent, given)) in
               let rec = b .rec ∙ ap (λ (x : StartReply). x .rec) (same .reply) in
               let memory = same .memory none in
               let all = rw (q, first, rec, b .registers ∙ memory .0, b .cells ∙ memory .1) at lines in
@@ -255,7 +255,7 @@ module _ (par text input : List ℕ) where
               ∙ sym (printed-loaded n (sym (load-alike p text image sizes) ∙ e))
 
     -- Every run, whatever the buffers held before, writes exactly what document 01 says.
-    pub run-prints : {values : List ℤ} → length values ≡ 4096 → {lines out : List ℕ} → Run p text input image registers cells values lines out →
+    pub run-prints : {values : List ℤ} → length values ≡ sliceValues → {lines out : List ℕ} → Run p text input image registers cells values lines out →
         out ≡ printed par text input
     run-prints size (refused is more) = refused-prints is more
     run-prints size (goes is more chain) = granted-prints is more size chain

@@ -14,7 +14,7 @@ use Rattle.model.proofs.Refusals.{load-refused-first, grant-refused}
 use Rattle.model.specs.Calls.{accountOf, Started, started, Granted, granted, recordFits, grantChecks, grantRefusal}
 use Rattle.model.specs.Grants.{Call}
 use Rattle.model.specs.Load.{lengthCheck, loadChecks, loadReply}
-use Rattle.model.specs.Parameters.{Check, _unless_, refusalOf, parameterChecks}
+use Rattle.model.specs.Parameters.{Check, _unless_, refusalOf, parameterChecks, maxText, maxInput, maxGrant}
 use Rattle.model.specs.Program.{isFull, replyLines, sliceCall, grantLines, startLines, printed}
 use Rattle.model.specs.Settings.{settings}
 use Rattle.model.specs.Step.{environmentOf}
@@ -25,7 +25,7 @@ use Rattle.model.specs.declared.Record.{Record}
 use Rattle.session.proofs.Printed.{lines-last, start-fresh, start-stops, start-goes, printed-refused, printed-loaded}
 
 -- A TEXT THAT IS TOO LONG is refused, whatever it says.
-load-long : (p : Parameters) (old a b : List ℕ) → 65536 < length a → 65536 < length b →
+load-long : (p : Parameters) (old a b : List ℕ) → maxText < length a → maxText < length b →
     (k : ℕ) × ((loadReply p a old ≡ load.Refused (suc k) 0) × (loadReply p b old ≡ load.Refused (suc k) 0))
 unfolding loadChecks
 load-long p old a b long-a long-b = go (refusalOf (parameterChecks p ++ later)) refl
@@ -33,8 +33,8 @@ load-long p old a b long-a long-b = go (refusalOf (parameterChecks p ++ later)) 
     later : List Check
     later = lengthCheck p old ∷ 7 unless false ∷ []
 
-    same : (t : List ℕ) → 65536 < length t → loadChecks p t old ≡ parameterChecks p ++ later
-    same t l = rw (lt-leb (length t) 65536 l)
+    same : (t : List ℕ) → maxText < length t → loadChecks p t old ≡ parameterChecks p ++ later
+    same t l = rw (lt-leb (length t) maxText l)
 
     go : (k : ℕ) → refusalOf (parameterChecks p ++ later) ≡ k →
         (k : ℕ) × ((loadReply p a old ≡ load.Refused (suc k) 0) × (loadReply p b old ≡ load.Refused (suc k) 0))
@@ -44,21 +44,21 @@ load-long p old a b long-a long-b = go (refusalOf (parameterChecks p ++ later)) 
     go (suc k) h =
         (k, (load-refused-first p a old k (ap refusalOf (same a long-a) ∙ h), load-refused-first p b old k (ap refusalOf (same b long-b) ∙ h)))
 
-text-long : (par a b input : List ℕ) → 65536 < length a → 65536 < length b → printed par a input ≡ printed par b input
+text-long : (par a b input : List ℕ) → maxText < length a → maxText < length b → printed par a input ≡ printed par b input
 text-long par a b input long-a long-b =
     let (k, (x, y)) = load-long (settings par) (replicate (4 * settings par .t) 0) a b long-a long-b in
     printed-refused par a input (suc k) 0 x ∙ sym (printed-refused par b input (suc k) 0 y)
 
 -- AN INPUT THAT IS TOO LONG: the first grant is refused.
-module _ (image : List ℕ) (r : Record) (fresh : r .place ≡ 0) (registers cells : List ℤ) (c : Call) (x y : List ℕ) (long-x : 65536 < length x)
-    (long-y : 65536 < length y) where
+module _ (image : List ℕ) (r : Record) (fresh : r .place ≡ 0) (registers cells : List ℤ) (c : Call) (x y : List ℕ) (long-x : maxInput < length x)
+    (long-y : maxInput < length y) where
   abbrev refusal : List ℕ → ℕ
   refusal i = grantRefusal (environmentOf (r .parameters) image i) (accountOf r registers cells) c
 
   refusal-long : refusal x ≡ refusal y
   unfolding grantRefusal grantChecks recordFits
   refusal-long =
-      rw (fresh, lt-leb (length x) 65536 long-x, lt-leb (length y) 65536 long-y, le-leb 0 (length x) (omega arith), le-leb 0 (length y) (omega arith))
+      rw (fresh, lt-leb (length x) maxInput long-x, lt-leb (length y) maxInput long-y, le-leb 0 (length x) (omega arith), le-leb 0 (length y) (omega arith))
 
   grant-long : (granted image x r registers cells c ≡ granted image y r registers cells c) × (isFull (granted image y r registers cells c .reply .outcome) ≡ false)
   grant-long = go (refusal y) refl
@@ -72,7 +72,7 @@ module _ (image : List ℕ) (r : Record) (fresh : r .place ≡ 0) (registers cel
           let refused = grant-refused image y r registers cells c k h in
           (grant-refused image x r registers cells c k (refusal-long ∙ h) ∙ sym refused, ap (λ (g : Granted). isFull (g .reply .outcome)) refused)
 
-lines-long : (image : List ℕ) (r : Record) → r .place ≡ 0 → (registers cells : List ℤ) (n cycles : ℕ) (x y : List ℕ) → 65536 < length x → 65536 < length y →
+lines-long : (image : List ℕ) (r : Record) → r .place ≡ 0 → (registers cells : List ℤ) (n cycles : ℕ) (x y : List ℕ) → maxInput < length x → maxInput < length y →
     grantLines image x (suc n) cycles r registers cells ≡ grantLines image y (suc n) cycles r registers cells
 lines-long image r fresh registers cells n cycles x y long-x long-y =
     let (same, full) = grant-long image r fresh registers cells (sliceCall cycles) x y long-x long-y in
@@ -80,7 +80,7 @@ lines-long image r fresh registers cells n cycles x y long-x long-y =
     ∙ ap (λ (g : Granted). replyLines g ++ []) same
     ∙ sym (lines-last image y n cycles r registers cells full)
 
-start-long : (p : Parameters) (image : List ℕ) (registers cells : List ℤ) (x y : List ℕ) → 65536 < length x → 65536 < length y →
+start-long : (p : Parameters) (image : List ℕ) (registers cells : List ℤ) (x y : List ℕ) → maxInput < length x → maxInput < length y →
     startLines image x (started p image registers cells) ≡ startLines image y (started p image registers cells)
 start-long p image registers cells x y long-x long-y = go (s .reply .refusal) refl
   where
@@ -91,11 +91,11 @@ start-long p image registers cells x y long-x long-y = go (s .reply .refusal) re
     go zero h =
         let fresh = ap (λ (r : Record). r .place) (start-fresh p image registers cells h) in
         start-goes image x s h
-        ∙ lines-long image (s .reply .rec) fresh (s .registers) (s .cells) 1_000_000_000 1_000_000_000 x y long-x long-y
+        ∙ lines-long image (s .reply .rec) fresh (s .registers) (s .cells) maxGrant maxGrant x y long-x long-y
         ∙ sym (start-goes image y s h)
     go (suc k) h = let stops = ne-eqb (s .reply .refusal) 0 (λ e. omega (arith, h, e)) in start-stops image x s stops ∙ sym (start-stops image y s stops)
 
-input-long : (par text x y : List ℕ) → 65536 < length x → 65536 < length y → printed par text x ≡ printed par text y
+input-long : (par text x y : List ℕ) → maxInput < length x → maxInput < length y → printed par text x ≡ printed par text y
 input-long par text x y long-x long-y = go (loadReply (settings par) text (replicate (4 * settings par .t) 0)) refl
   where
     go : (l : LoadReply) → loadReply (settings par) text (replicate (4 * settings par .t) 0) ≡ l → printed par text x ≡ printed par text y
@@ -103,28 +103,25 @@ input-long par text x y long-x long-y = go (loadReply (settings par) text (repli
     go (load.Accepted n) e = printed-loaded par text x n e ∙ start-long (settings par) _ _ _ x y long-x long-y ∙ sym (printed-loaded par text y n e)
 
 -- THE FILES. All of one that is within the limit, and one byte more than the limit of one that is not.
-take-all : (s : List ℕ) → length s ≤ 65536 → take 65537 s ≡ s
-take-all s l =
-    let over : length s ≤ 65537 = omega (arith, l) in
-    sym (append-nil _) ∙ ap (λ (rest : List ℕ). take 65537 s ++ rest) (sym (drop-of-length-le s over)) ∙ take-append-drop 65537 s
+take-all : (most : ℕ) (s : List ℕ) → length s ≤ most → take (suc most) s ≡ s
+take-all most s l =
+    let over : length s ≤ suc most = omega (arith, l) in
+    sym (append-nil _) ∙ ap (λ (rest : List ℕ). take (suc most) s ++ rest) (sym (drop-of-length-le s over)) ∙ take-append-drop (suc most) s
 
-long-part : (s : List ℕ) → 65536 < length s → 65536 < length (take 65537 s)
-long-part s l = rw (length-take-le 65537 s (omega (arith, l))) (omega arith)
+long-part : (most : ℕ) (s : List ℕ) → most < length s → most < length (take (suc most) s)
+long-part most s l = rw (length-take-le (suc most) s (omega (arith, l))) (omega arith)
 
-text-part : (par text input : List ℕ) → printed par (take 65537 text) input ≡ printed par text input
-text-part par text input = go (decLt 65536 (length text))
+-- What depends on a file alike for all that are over the limit depends on that part of it.
+by-part : (P : List ℕ → List ℕ) (most : ℕ) → ((a b : List ℕ) → most < length a → most < length b → P a ≡ P b) →
+    (s : List ℕ) → P (take (suc most) s) ≡ P s
+by-part P most same s = go (decLt most (length s))
   where
-    go : Dec (65536 < length text) → printed par (take 65537 text) input ≡ printed par text input
-    go (yes l) = text-long par (take 65537 text) text input (long-part text l) l
-    go (no g) = ap (λ (t : List ℕ). printed par t input) (take-all text (omega (arith, g)))
-
-input-part : (par text input : List ℕ) → printed par text (take 65537 input) ≡ printed par text input
-input-part par text input = go (decLt 65536 (length input))
-  where
-    go : Dec (65536 < length input) → printed par text (take 65537 input) ≡ printed par text input
-    go (yes l) = input-long par text (take 65537 input) input (long-part input l) l
-    go (no g) = ap (λ (t : List ℕ). printed par text t) (take-all input (omega (arith, g)))
+    go : Dec (most < length s) → P (take (suc most) s) ≡ P s
+    go (yes l) = same (take (suc most) s) s (long-part most s l) l
+    go (no g) = ap P (take-all most s (omega (arith, g)))
 
 -- The first 65,537 bytes of text and input give what the whole files give.
-pub whole-files : (par text input : List ℕ) → printed par (take 65537 text) (take 65537 input) ≡ printed par text input
-whole-files par text input = text-part par text (take 65537 input) ∙ input-part par text input
+pub whole-files : (par text input : List ℕ) → printed par (take (suc maxText) text) (take (suc maxInput) input) ≡ printed par text input
+whole-files par text input =
+    by-part (λ t. printed par t (take (suc maxInput) input)) maxText (λ a b. text-long par a b (take (suc maxInput) input)) text
+    ∙ by-part (printed par text) maxInput (input-long par text) input

@@ -9,11 +9,12 @@ use lib.ListN.{length, drop}
 use Rattle.model.specs.Calls.{Started, started, Granted, granted}
 use Rattle.model.specs.Lines.{refusalLine}
 use Rattle.model.specs.Load.{loadReply, imageAfter}
-use Rattle.model.specs.Program.{isFull, replyLines}
+use Rattle.model.specs.Program.{isFull, replyLines, sliceValues}
 use Rattle.model.specs.declared.LoadReply.{LoadReply}
 use Rattle.model.specs.declared.LoadReply.the-variants as load
 use Rattle.model.specs.declared.Parameters.{Parameters}
 use Rattle.model.specs.declared.Record.{Record}
+use Rattle.model.specs.Parameters.{maxRegisters, maxCells, maxInstructions, maxGrant}
 use Rattle.session.specs.declared.Report.{Report}
 
 -- START. "A refused call prints .. number, line index (0 but from load), and is the last."
@@ -35,7 +36,7 @@ module _ (p : Parameters) (image : List ℕ) (registers₀ cells₀ : List ℤ) 
     pub more : r .more ≡ eqb (begun .reply .refusal) 0
     pub rec : r .rec ≡ begun .reply .rec
     -- "grants 10^9 once"
-    pub cycles : r .more ≡ true → r .cycles ≡ 1_000_000_000
+    pub cycles : r .more ≡ true → r .cycles ≡ maxGrant
     pub registers : registers₁ ≡ begun .registers
     pub cells : cells₁ ≡ begun .cells
 
@@ -46,9 +47,13 @@ sizeOf n most = cond (leb n most) n 0
 
 -- The slices have the parameters' lengths.
 pub record Sizes (p : Parameters) (image : List ℕ) (registers cells : List ℤ) : Type 0 where
-  pub words : length image ≡ 4 * sizeOf (p .t) 4096
-  pub register-count : length registers ≡ sizeOf (p .n) 256
-  pub cell-count : length cells ≡ sizeOf (p .s) 4096
+  pub words : length image ≡ 4 * sizeOf (p .t) maxInstructions
+  pub register-count : length registers ≡ sizeOf (p .n) maxRegisters
+  pub cell-count : length cells ≡ sizeOf (p .s) maxCells
+
+-- The bytes of a grant's lines: at most 12 for a value, 80 for the last line.
+abbrev pub linesBytes : ℕ
+linesBytes = 12 * sliceValues + 80
 
 -- A refused load is the last call.
 pub record Unloaded (k i : ℕ) (registers₀ cells₀ : List ℤ) (lines₀ : List ℕ) (r : Report) (registers₁ cells₁ : List ℤ) (lines₁ : List ℕ) : Type 0 where

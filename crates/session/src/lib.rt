@@ -5,9 +5,9 @@ ghost use mathlib.Core.Bool.{true, false};
 ghost use mathlib.Core.Path.{_≡_};
 ghost use Prim.Native.Nat.{_+_, _≤_};
 ghost use lib.ListN.{length};
-ghost use Rattle.model.specs.Program.{isFull, lastLines};
+ghost use Rattle.model.specs.Program.{isFull, lastLines, sliceValues};
 ghost use Rattle.session.specs.Puts.{Put};
-ghost use Rattle.session.specs.Sessions.{Sizes, BeginIs, OpenIs, ReportIs};
+ghost use Rattle.session.specs.Sessions.{Sizes, linesBytes, BeginIs, OpenIs, ReportIs};
 use crate::printing::put_ending;
 use crate::printing::put_refusal;
 use crate::printing::put_values;
@@ -129,7 +129,7 @@ pub fn run_grant(
     values: &mut [i32],
     lines: &mut [u8],
 ) -> Report
-    requires { ⌜ (length (now values) ≡ 4096) × (49232 ≤ length (now lines)) ⌝ }
+    requires { ⌜ (length (now values) ≡ sliceValues) × (linesBytes ≤ length (now lines)) ⌝ }
     ensures { λ r. ⌜ ReportIs (now (image .entry)) (now (input .entry)) rec cycles (now (registers .entry)) (now (cells .entry)) (now (values .entry)) (now (lines .entry)) r (now (registers .exit)) (now (cells .exit)) (now (values .exit)) (now (lines .exit)) ⌝ }
     ensures within { λ r. ⌜ r .count ≤ length (now (lines .exit)) ⌝ }
 {
