@@ -15,7 +15,7 @@ use Rattle.model.specs.declared.Record.{Record}
 use Rattle.model.specs.declared.StartReply.{StartReply}
 use Rattle.machine.specs.Contracts.{StartIs, GrantIs}
 use Rattle.tak.specs.Calls.{takLoad, startReplied, takStart, outcomeEnding, grantReplied, takGrant}
-use Rattle.tak.specs.Records.{recordAfter, recordFrom}
+use Rattle.tak.specs.Records.{recordAfter, recordFrom, recordLength}
 
 -- LOAD
 module _ (p : Parameters) (text image : List ℕ) where
@@ -30,12 +30,12 @@ module _ (p : Parameters) (text image : List ℕ) where
 
 -- START
 module _ (p : Parameters) (image : List ℕ) (registers cells numbers : List ℤ) where
-  pub start-size : ¬ (length numbers ≡ 11) →
+  pub start-size : ¬ (length numbers ≡ recordLength) →
       takStart p image registers cells numbers ≡ record { number = 100; registers = registers; cells = cells; numbers = numbers }
   unfolding takStart
-  start-size h = rw (ne-eqb (length numbers) 11 h)
+  start-size h = rw (ne-eqb (length numbers) recordLength h)
 
-  pub start-replied : {r : StartReply} {registers′ cells′ numbers′ : List ℤ} → length numbers ≡ 11 →
+  pub start-replied : {r : StartReply} {registers′ cells′ numbers′ : List ℤ} → length numbers ≡ recordLength →
       StartIs p image registers cells r registers′ cells′ → numbers′ ≡ recordAfter (r .refusal) (r .rec) numbers →
       takStart p image registers cells numbers
       ≡ record { number = r .refusal; registers = registers′; cells = cells′; numbers = numbers′ }
@@ -43,12 +43,12 @@ module _ (p : Parameters) (image : List ℕ) (registers cells numbers : List ℤ
   start-replied {r} {registers′} {cells′} h s e =
       let x : started p image registers cells ≡ record { reply = r; registers = registers′; cells = cells′ } =
       sym (λ i. record { reply = s .reply i; registers = s .registers i; cells = s .cells i }) in
-      rw (eq-eqb (length numbers) 11 h) (ap (λ (y : Started). startReplied y numbers) x
+      rw (eq-eqb (length numbers) recordLength h) (ap (λ (y : Started). startReplied y numbers) x
       ∙ (λ i. record { number = r .refusal; registers = registers′; cells = cells′; numbers = sym e i }))
 
 -- GRANT
 module _ (image input : List ℕ) (cycles : ℕ) (numbers registers cells output : List ℤ) where
-  pub grant-size : ¬ (length numbers ≡ 11) →
+  pub grant-size : ¬ (length numbers ≡ recordLength) →
       takGrant numbers cycles image input registers cells output
       ≡ record {
         number = 100;
@@ -61,12 +61,12 @@ module _ (image input : List ℕ) (cycles : ℕ) (numbers registers cells output
         output = output;
       }
   unfolding takGrant
-  grant-size h = rw (ne-eqb (length numbers) 11 h)
+  grant-size h = rw (ne-eqb (length numbers) recordLength h)
 
   abbrev call : Call
   call = record { cycles = cycles; slice = output }
 
-  pub grant-replied : {rec : Record} {r : GrantReply} {number ending : ℕ} {registers′ cells′ output′ numbers′ : List ℤ} → length numbers ≡ 11 →
+  pub grant-replied : {rec : Record} {r : GrantReply} {number ending : ℕ} {registers′ cells′ output′ numbers′ : List ℤ} → length numbers ≡ recordLength →
       rec ≡ recordFrom numbers → GrantIs image input rec cycles registers cells output r registers′ cells′ output′ →
       number ≡ outcomeNumber (r .outcome) → ending ≡ outcomeEnding (r .outcome) → numbers′ ≡ recordAfter number (r .rec) numbers →
       takGrant numbers cycles image input registers cells output
@@ -86,5 +86,5 @@ module _ (image input : List ℕ) (cycles : ℕ) (numbers registers cells output
       ap (λ (y : Record). granted image input y registers cells call) (sym e)
       ∙ sym (λ i. record { reply = g .reply i; registers = g .registers i; cells = g .cells i; slice = g .slice i }) in
       let w = ap (λ (y : ℕ). recordAfter y (r .rec) numbers) (sym n) ∙ sym k in
-      rw (eq-eqb (length numbers) 11 h) (ap (λ (y : Granted). grantReplied y numbers) x
+      rw (eq-eqb (length numbers) recordLength h) (ap (λ (y : Granted). grantReplied y numbers) x
       ∙ (λ i. record { number = sym n i; ending = sym m i; values = r .values; spent = r .cycles; numbers = w i; registers = registers′; cells = cells′; output = output′ }))

@@ -21,7 +21,7 @@ use Rattle.model.specs.declared.Parameters.{Parameters}
 use Rattle.model.specs.declared.Record.{Record}
 use Rattle.tak.specs.Calls.{StartCall, startReplied, takStart, GrantCall, grantReplied, takGrant}
 use Rattle.tak.specs.Lists.{Slices, slicesAfterStart, slicesAfter, Chain, nothing, called, allReplied, CallsDemand3}
-use Rattle.tak.specs.Records.{recordAfter, numbersOf}
+use Rattle.tak.specs.Records.{recordAfter, numbersOf, recordLength}
 use Rattle.tak.proofs.Exact.{Fitting, read-back, fresh-fitting, granted-fitting}
 
 -- The slices of a record and memory.
@@ -100,7 +100,7 @@ module _ (p : Parameters) (image input : List ℕ) (registers cells numbers : Li
   unfolding takStart
   replied =
       sym is
-      ∙ sized (eqb (length numbers) 11) (startReplied begun numbers) _ refl (ap (λ (y : StartCall). y .number) is ∙ accepted)
+      ∙ sized (eqb (length numbers) recordLength) (startReplied begun numbers) _ refl (ap (λ (y : StartCall). y .number) is ∙ accepted)
 
   number : begun .reply .refusal ≡ 0
   number = ap (λ (y : StartCall). y .number) (sym replied) ∙ accepted

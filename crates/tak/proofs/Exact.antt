@@ -20,7 +20,7 @@ use Rattle.model.specs.Step.{Environment, State, environmentOf}
 use Rattle.model.specs.declared.Parameters.{Parameters}
 use Rattle.model.specs.declared.Record.{Record}
 use Rattle.tak.specs.Calls.{takGrant}
-use Rattle.tak.specs.Records.{held, most32, most64, at, recordFrom, numbersOf}
+use Rattle.tak.specs.Records.{held, most32, most64, at, recordFrom, numbersOf, recordLength}
 
 -- EXACT
 -- A number that is held as less than the greatest is held as itself.
@@ -52,12 +52,12 @@ module _ (image input : List ℕ) (cycles : ℕ) (numbers registers cells output
   abbrev call : Call
   call = record { cycles = cycles; slice = output }
 
-  fields-exact : length numbers ≡ 11 → grantRefusal e account call ≡ 0 → numbersOf (recordFrom numbers) ≡ numbers
+  fields-exact : length numbers ≡ recordLength → grantRefusal e account call ≡ 0 → numbersOf (recordFrom numbers) ≡ numbers
   fields-exact h r =
       let g = grant-accepted e account call r in
       let l = limits (recordFrom numbers .parameters) (g .start .fit) in
       let a = record-sound e account (g .record-fits) (g .start .register-count) (g .start .cell-count) in
-      let same : numbersOf (recordFrom numbers) ≡ elements 11 0 numbers =
+      let same : numbersOf (recordFrom numbers) ≡ elements recordLength 0 numbers =
       λ i.
       held-exact most32 (at numbers 0) (omega (arith, l .k-high)) i
       ∷ held-exact most32 (at numbers 1) (omega (arith, l .n-high)) i
@@ -71,15 +71,15 @@ module _ (image input : List ℕ) (cycles : ℕ) (numbers registers cells output
       ∷ held-exact most64 (at numbers 9) (omega (arith, a .granted)) i
       ∷ held-exact most64 (at numbers 10) (omega (arith, a .spent, a .granted)) i
       ∷ [] in
-      same ∙ all-elements 11 0 numbers (omega arith)
+      same ∙ all-elements recordLength 0 numbers (omega arith)
 
   -- An accepted call of `tak_grant` was given the numbers of a record.
-  pub accepted-exact : length numbers ≡ 11 → takGrant numbers cycles image input registers cells output .number ≡ 0 →
+  pub accepted-exact : length numbers ≡ recordLength → takGrant numbers cycles image input registers cells output .number ≡ 0 →
       numbersOf (recordFrom numbers) ≡ numbers
   unfolding takGrant
   accepted-exact h z =
       let n : outcomeNumber (granted image input (recordFrom numbers) registers cells call .reply .outcome) ≡ 0 =
-      rw (eq-eqb (length numbers) 11 h) at z in
+      rw (eq-eqb (length numbers) recordLength h) at z in
       fields-exact h (sym (grant-number image input (recordFrom numbers) registers cells call) ∙ n)
 
 -- READ BACK

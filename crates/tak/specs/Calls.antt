@@ -13,7 +13,7 @@ use Rattle.model.specs.declared.Parameters.{Parameters}
 use Rattle.model.specs.declared.Record.{Record}
 use Rattle.model.specs.Calls.{Started, started, Granted, granted, outcomeNumber, Spelled, spelled}
 use Rattle.model.specs.Load.{loadReply, imageAfter, loadRefusal, loadLines, loadLine}
-use Rattle.tak.specs.Records.{recordFrom, recordAfter}
+use Rattle.tak.specs.Records.{recordFrom, recordAfter, recordLength}
 
 -- The parameters, as each call has them.
 abbrev pub parametersOf : (k n s b t : ℕ) → Parameters
@@ -56,7 +56,7 @@ startReplied x numbers =
 -- A record slice that has not 11 numbers is refused first, by TAK_RECORD_SIZE, 100; else document 01 answers.
 unfoldable pub takStart : Parameters → (image : List ℕ) (registers cells numbers : List ℤ) → StartCall
 takStart p image registers cells numbers =
-    cond (eqb (length numbers) 11)
+    cond (eqb (length numbers) recordLength)
     (startReplied (started p image registers cells) numbers)
     (record { number = 100; registers = registers; cells = cells; numbers = numbers })
 
@@ -100,7 +100,7 @@ grantReplied x numbers =
 -- The same check first; else document 01 answers, for the record that the slice is.
 unfoldable pub takGrant : (numbers : List ℤ) (cycles : ℕ) (image input : List ℕ) (registers cells output : List ℤ) → GrantCall
 takGrant numbers cycles image input registers cells output =
-    cond (eqb (length numbers) 11)
+    cond (eqb (length numbers) recordLength)
     (grantReplied (granted image input (recordFrom numbers) registers cells (record { cycles = cycles; slice = output })) numbers)
     (record {
       number = 100;
