@@ -7,6 +7,7 @@ use lib.IntN.{ℤ}
 use lib.ListN.{length, take}
 use lib.Seq.{length-take-le}
 use Rattle.model.specs.declared.Parameters.{Parameters}
+use Rattle.model.specs.Parameters.{maxRegisters, maxCells, maxInstructions}
 use Rattle.session.specs.Sessions.{sizeOf, Sizes}
 
 -- What `size_of` promises.
@@ -14,8 +15,8 @@ abbrev pub Sized : (r n most : ℕ) → Type 0
 Sized r n most = (r ≡ sizeOf n most) × (r ≤ most)
 
 pub sized : (p : Parameters) (image : List ℕ) (registers cells : List ℤ) {w n s : ℕ} →
-    (16384 ≤ length image) × (256 ≤ length registers) × (4096 ≤ length cells) →
-    Sized w (p .t) 4096 → Sized n (p .n) 256 → Sized s (p .s) 4096 →
+    (4 * maxInstructions ≤ length image) × (maxRegisters ≤ length registers) × (maxCells ≤ length cells) →
+    Sized w (p .t) maxInstructions → Sized n (p .n) maxRegisters → Sized s (p .s) maxCells →
     Sizes p (take (4 * w) image) (take n registers) (take s cells)
 sized p image registers cells {w} {n} {s} room words count size =
     record {

@@ -1,8 +1,10 @@
 // takrun: runs the program of the current folder. It reads `tak.par`, `tak.tcl` and `tak.in`; a file that is missing or cannot be read counts as empty.
 ghost use mathlib.Core.Path.{_≡_};
-ghost use Prim.Native.Nat.{_≤_, _<_};
+ghost use Prim.Native.Nat.{_*_, _≤_, _<_};
 ghost use lib.ListN.{length};
-ghost use Rattle.session.specs.Sessions.{Sizes, sizeOf};
+ghost use Rattle.model.specs.Program.{sliceValues};
+ghost use Rattle.model.specs.Parameters.{maxRegisters, maxCells, maxInstructions};
+ghost use Rattle.session.specs.Sessions.{Sizes, sizeOf, linesBytes};
 use libc::EINTR;
 use libc::STDOUT_FILENO;
 use model::Parameters;
@@ -109,7 +111,7 @@ fn run_grants(
     values: &mut [i32],
     lines: &mut [u8],
 )
-    requires { ⌜ (length (now values) ≡ 4096) × (49232 ≤ length (now lines)) ⌝ }
+    requires { ⌜ (length (now values) ≡ sliceValues) × (linesBytes ≤ length (now lines)) ⌝ }
 {
     let mut report = first;
     while report.more {
@@ -158,7 +160,7 @@ fn run_input(
     values: &mut [i32],
     lines: &mut [u8],
 )
-    requires { ⌜ (length (now values) ≡ 4096) × (49232 ≤ length (now lines)) ⌝ }
+    requires { ⌜ (length (now values) ≡ sliceValues) × (linesBytes ≤ length (now lines)) ⌝ }
 {
     let count = read_file(b"tak.in", bytes);
     run_grants(
@@ -182,7 +184,7 @@ fn run(
     lines: &mut [u8],
 )
     requires { ⌜ Sizes p (now image) (now registers) (now cells) ⌝ }
-    requires { ⌜ (length (now values) ≡ 4096) × (49232 ≤ length (now lines)) ⌝ }
+    requires { ⌜ (length (now values) ≡ sliceValues) × (linesBytes ≤ length (now lines)) ⌝ }
 {
     let report = load_text(p, bytes, image, registers, cells, lines);
     let count = report.count;
@@ -211,8 +213,8 @@ fn run_slices(
     values: &mut [i32],
     lines: &mut [u8],
 )
-    requires { ⌜ (16384 ≤ length (now image)) × (256 ≤ length (now registers)) × (4096 ≤ length (now cells)) ⌝ }
-    requires { ⌜ (length (now values) ≡ 4096) × (49232 ≤ length (now lines)) ⌝ }
+    requires { ⌜ (4 * maxInstructions ≤ length (now image)) × (maxRegisters ≤ length (now registers)) × (maxCells ≤ length (now cells)) ⌝ }
+    requires { ⌜ (length (now values) ≡ sliceValues) × (linesBytes ≤ length (now lines)) ⌝ }
 {
     let words = 4 * size_of(p.t, MAX_WORDS / 4);
     let n = size_of(p.n, MAX_REGISTERS);
