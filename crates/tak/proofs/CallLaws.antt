@@ -5,16 +5,15 @@ use mathlib.Core.Path.{_≡_, sym, ap, _∙_}
 use lib.IntN.{ℤ}
 use lib.ListN.{length}
 use borrow.Author.Tests.{eq-eqb, ne-eqb}
-use Rattle.model.specs.Calls.{Started, started, Granted, granted, outcomeNumber}
+use Rattle.model.specs.Calls.{Started, Granted, granted, outcomeNumber}
 use Rattle.model.specs.Grants.{Call}
 use Rattle.model.specs.Load.{loadReply, imageAfter, LoadNumbers, loadNumbers, numbersOfLoad}
-use Rattle.model.specs.declared.GrantReply.{GrantReply}
+use Rattle.model.specs.Step.{Environment, withParameters}
 use Rattle.model.specs.declared.LoadReply.{LoadReply}
 use Rattle.model.specs.declared.Parameters.{Parameters}
 use Rattle.model.specs.declared.Record.{Record}
-use Rattle.model.specs.declared.StartReply.{StartReply}
 use Rattle.machine.specs.Contracts.{StartIs, GrantIs}
-use Rattle.tak.specs.Calls.{takLoad, startReplied, takStart, outcomeEnding, grantReplied, takGrant}
+use Rattle.tak.specs.Calls.{takLoad, Slices, startReplied, takStart, outcomeEnding, grantReplied, takGrant}
 use Rattle.tak.specs.Records.{recordAfter, recordFrom, recordLength}
 
 -- LOAD
@@ -29,62 +28,50 @@ module _ (p : Parameters) (text image : List ℕ) where
       λ i. record { number = numbers i .refusal; lines = numbers i .lines; line = numbers i .line; image = words i }
 
 -- START
-module _ (p : Parameters) (image : List ℕ) (registers cells numbers : List ℤ) where
-  pub start-size : ¬ (length numbers ≡ recordLength) →
-      takStart p image registers cells numbers ≡ record { number = 100; registers = registers; cells = cells; numbers = numbers }
+module _ (e : Environment) (s : Slices) where
+  pub start-size : ¬ (length (s .numbers) ≡ recordLength) → takStart e s ≡ record { number = 100; slices = s }
   unfolding takStart
-  start-size h = rw (ne-eqb (length numbers) recordLength h)
+  start-size h = rw (ne-eqb (length (s .numbers)) recordLength h)
 
-  pub start-replied : {r : StartReply} {registers′ cells′ numbers′ : List ℤ} → length numbers ≡ recordLength →
-      StartIs p image registers cells r registers′ cells′ → numbers′ ≡ recordAfter (r .refusal) (r .rec) numbers →
-      takStart p image registers cells numbers
-      ≡ record { number = r .refusal; registers = registers′; cells = cells′; numbers = numbers′ }
+  pub start-replied : {x : Started} {numbers′ : List ℤ} → length (s .numbers) ≡ recordLength → StartIs e (s .memory) x →
+      numbers′ ≡ recordAfter (x .reply .refusal) (x .reply .rec) (s .numbers) →
+      takStart e s ≡ record { number = x .reply .refusal; slices = record { numbers = numbers′; memory = x .memory } }
   unfolding takStart
-  start-replied {r} {registers′} {cells′} h s e =
-      let x : started p image registers cells ≡ record { reply = r; registers = registers′; cells = cells′ } =
-      sym (λ i. record { reply = s .reply i; registers = s .registers i; cells = s .cells i }) in
-      rw (eq-eqb (length numbers) recordLength h) (ap (λ (y : Started). startReplied y numbers) x
-      ∙ (λ i. record { number = r .refusal; registers = registers′; cells = cells′; numbers = sym e i }))
+  start-replied {x} h i q =
+      rw (eq-eqb (length (s .numbers)) recordLength h) (ap (λ (y : Started). startReplied y (s .numbers)) (sym (i .given))
+      ∙ (λ j. record { number = x .reply .refusal; slices = record { numbers = sym q j; memory = x .memory } }))
 
 -- GRANT
-module _ (image input : List ℕ) (cycles : ℕ) (numbers registers cells output : List ℤ) where
-  pub grant-size : ¬ (length numbers ≡ recordLength) →
-      takGrant numbers cycles image input registers cells output
-      ≡ record {
-        number = 100;
-        ending = 0;
-        values = 0;
-        spent = 0;
-        numbers = numbers;
-        registers = registers;
-        cells = cells;
-        output = output;
-      }
+module _ (e : Environment) (s : Slices) (c : Call) where
+  pub grant-size : ¬ (length (s .numbers) ≡ recordLength) →
+      takGrant e s c ≡ record { number = 100; ending = 0; values = 0; spent = 0; slices = s; output = c .slice }
   unfolding takGrant
-  grant-size h = rw (ne-eqb (length numbers) recordLength h)
+  grant-size h = rw (ne-eqb (length (s .numbers)) recordLength h)
 
-  abbrev call : Call
-  call = record { cycles = cycles; slice = output }
-
-  pub grant-replied : {rec : Record} {r : GrantReply} {number ending : ℕ} {registers′ cells′ output′ numbers′ : List ℤ} → length numbers ≡ recordLength →
-      rec ≡ recordFrom numbers → GrantIs image input rec cycles registers cells output r registers′ cells′ output′ →
-      number ≡ outcomeNumber (r .outcome) → ending ≡ outcomeEnding (r .outcome) → numbers′ ≡ recordAfter number (r .rec) numbers →
-      takGrant numbers cycles image input registers cells output
+  pub grant-replied : {rec : Record} {x : Granted} {number ending : ℕ} {numbers′ : List ℤ} → length (s .numbers) ≡ recordLength →
+      rec ≡ recordFrom (s .numbers) → GrantIs (withParameters (rec .parameters) e) (record { rec = rec; memory = s .memory }) c x →
+      number ≡ outcomeNumber (x .reply .outcome) → ending ≡ outcomeEnding (x .reply .outcome) →
+      numbers′ ≡ recordAfter number (x .reply .rec) (s .numbers) →
+      takGrant e s c
       ≡ record {
         number = number;
         ending = ending;
-        values = r .values;
-        spent = r .cycles;
-        numbers = numbers′;
-        registers = registers′;
-        cells = cells′;
-        output = output′;
+        values = x .reply .values;
+        spent = x .reply .cycles;
+        slices = record { numbers = numbers′; memory = x .memory };
+        output = x .slice;
       }
-  unfolding takGrant
-  grant-replied {rec} {r} {number} {ending} {registers′} {cells′} {output′} h e g n m k =
-      let x : granted image input (recordFrom numbers) registers cells call ≡ record { reply = r; registers = registers′; cells = cells′; slice = output′ } =
-      ap (λ (y : Record). granted image input y registers cells call) (sym e)
-      ∙ sym (λ i. record { reply = g .reply i; registers = g .registers i; cells = g .cells i; slice = g .slice i }) in
-      let w = ap (λ (y : ℕ). recordAfter y (r .rec) numbers) (sym n) ∙ sym k in
-      rw (eq-eqb (length numbers) recordLength h) (ap (λ (y : Granted). grantReplied y numbers) x
-      ∙ (λ i. record { number = sym n i; ending = sym m i; values = r .values; spent = r .cycles; numbers = w i; registers = registers′; cells = cells′; output = output′ }))
+  unfolding takGrant granted
+  grant-replied {rec} {x} {number} {ending} h r g n m k =
+      let y = ap (λ (t : Record). granted e (record { rec = t; memory = s .memory }) c) (sym r) ∙ sym (g .given) in
+      let w = ap (λ (t : ℕ). recordAfter t (x .reply .rec) (s .numbers)) (sym n) ∙ sym k in
+      rw (eq-eqb (length (s .numbers)) recordLength h) (ap (λ (t : Granted). grantReplied t (s .numbers)) y
+      ∙ (λ i.
+      record {
+        number = sym n i;
+        ending = sym m i;
+        values = x .reply .values;
+        spent = x .reply .cycles;
+        slices = record { numbers = w i; memory = x .memory };
+        output = x .slice;
+      }))

@@ -1,7 +1,7 @@
 -- DEMAND 3 of calls from C: of every list of calls of tak_grant, from a call of tak_start that returned 0. Assumes nothing.
 use Prim.Native.Nat.{ℕ, zero, suc}
 use mathlib.Core.Bool.{Bool, true, false, cond}
-use mathlib.Core.List.{List, _∷_}
+use mathlib.Core.List.{List, [], _∷_}
 use mathlib.Core.Path.{_≡_, refl, sym, ap, _∙_}
 use native.Mathlib.Omega.{arith}
 use lib.Dec.{eqb}
@@ -12,26 +12,26 @@ use Rattle.model.proofs.Demand.{demand3}
 use Rattle.model.proofs.Fits.{start-accepted}
 use Rattle.model.proofs.GrantKeeps.{started-accepted}
 use Rattle.model.proofs.Refusals.{start-number, grant-refused, grant-number}
-use Rattle.model.specs.Calls.{startChecks, Started, started, accountOf, Granted, granted, grantRefusal, outcomeNumber}
-use Rattle.model.specs.Demand.{Held, heldAfterStart, heldAfter, gives, leaves}
+use Rattle.model.specs.Calls.{Held, environmentFor, startChecks, Started, started, heldAfterStart, accountOf, Granted, granted, heldAfter, grantRefusal, outcomeNumber}
+use Rattle.model.specs.Demand.{gives, leaves}
 use Rattle.model.specs.Grants.{Call}
 use Rattle.model.specs.Parameters.{refusalOf}
-use Rattle.model.specs.Step.{environmentOf}
-use Rattle.model.specs.declared.Parameters.{Parameters}
+use Rattle.model.specs.Step.{Environment, environmentOf}
 use Rattle.model.specs.declared.Record.{Record}
-use Rattle.tak.specs.Calls.{StartCall, startReplied, takStart, GrantCall, grantReplied, takGrant}
-use Rattle.tak.specs.Lists.{Slices, slicesAfterStart, slicesAfter, Chain, nothing, called, allReplied, CallsDemand3}
+use Rattle.machine.proofs.Demand.{input-unread}
+use Rattle.tak.specs.Calls.{Slices, StartCall, startReplied, takStart, GrantCall, grantReplied, takGrant}
+use Rattle.tak.specs.Lists.{Chain, nothing, called, allReplied, CallsDemand3}
 use Rattle.tak.specs.Records.{recordAfter, numbersOf, recordLength}
 use Rattle.tak.proofs.Exact.{Fitting, read-back, fresh-fitting, granted-fitting}
 
 -- The slices of a record and memory.
 abbrev slicesOf : Held → Slices
-slicesOf h = record { numbers = numbersOf (h .rec); registers = h .registers; cells = h .cells }
+slicesOf h = record { numbers = numbersOf (h .rec); memory = h .memory }
 
 -- ONE GRANT
-module _ (image input : List ℕ) (h : Held) (w : Fitting (h .rec)) (c : Call) where
+module _ (e : Environment) (h : Held) (w : Fitting (h .rec)) (c : Call) where
   abbrev given : Granted
-  given = granted image input (h .rec) (h .registers) (h .cells) c
+  given = granted e h c
 
   -- The record slice is the new record's, and the next call reads that record.
   record Next : Type 0 where
@@ -39,7 +39,7 @@ module _ (image input : List ℕ) (h : Held) (w : Fitting (h .rec)) (c : Call) w
     numbers : recordAfter (outcomeNumber (given .reply .outcome)) (given .reply .rec) (numbersOf (h .rec)) ≡ numbersOf (given .reply .rec)
 
   abbrev refusal : ℕ
-  refusal = grantRefusal (environmentOf (h .rec .parameters) image input) (accountOf (h .rec) (h .registers) (h .cells)) c
+  refusal = grantRefusal (environmentFor e h) (accountOf h) c
 
   next : Next
   unfolding recordAfter outcomeNumber
@@ -47,41 +47,36 @@ module _ (image input : List ℕ) (h : Held) (w : Fitting (h .rec)) (c : Call) w
     where
       go : (k : ℕ) → refusal ≡ k → Next
       go zero r =
-          let n : outcomeNumber (given .reply .outcome) ≡ 0 = grant-number image input (h .rec) (h .registers) (h .cells) c ∙ r in
-          record { fitting = granted-fitting image input (h .rec) (h .registers) (h .cells) c r; numbers = rw (eq-eqb _ 0 n) }
-      go (suc k) r =
-          let x = grant-refused image input (h .rec) (h .registers) (h .cells) c k r in
-          record {
-            fitting = rw x w;
-            numbers = rw (x, ne-eqb (suc k) 0 (λ q. omega arith));
-          }
+          let n : outcomeNumber (given .reply .outcome) ≡ 0 = grant-number e h c ∙ r in
+          record { fitting = granted-fitting e h c r; numbers = rw (eq-eqb _ 0 n) }
+      go (suc k) r = let x = grant-refused e h c k r in record { fitting = rw x w; numbers = rw (x, ne-eqb (suc k) 0 (λ q. omega arith)) }
 
-  answered : takGrant (numbersOf (h .rec)) (c .cycles) image input (h .registers) (h .cells) (c .slice) ≡ grantReplied given (numbersOf (h .rec))
+  answered : takGrant e (slicesOf h) c ≡ grantReplied given (numbersOf (h .rec))
   unfolding takGrant
-  answered = ap (λ (r : Record). grantReplied (granted image input r (h .registers) (h .cells) c) (numbersOf (h .rec))) (read-back (h .rec) w)
+  answered = ap (λ (r : Record). grantReplied (granted e (record { rec = r; memory = h .memory }) c) (numbersOf (h .rec))) (read-back (h .rec) w)
 
   -- The slices after the call.
-  after : slicesAfter (grantReplied given (numbersOf (h .rec))) ≡ slicesOf (heldAfter given)
-  after i = record { numbers = next .numbers i; registers = given .registers; cells = given .cells }
+  after : grantReplied given (numbersOf (h .rec)) .slices ≡ slicesOf (heldAfter given)
+  after i = record { numbers = next .numbers i; memory = given .memory }
 
 -- A LIST OF GRANTS
-record Answered (image input : List ℕ) (h : Held) (calls : List Call) (answers : List GrantCall) (last : Slices) : Type 0 where
-  answers-are : answers ≡ allReplied (numbersOf (h .rec)) (gives image input h calls)
-  last-is : last ≡ slicesOf (leaves image input h calls)
+record Answered (e : Environment) (h : Held) (calls : List Call) (answers : List GrantCall) (last : Slices) : Type 0 where
+  answers-are : answers ≡ allReplied (numbersOf (h .rec)) (gives e h calls)
+  last-is : last ≡ slicesOf (leaves e h calls)
 
-module _ (image input : List ℕ) where
+module _ (e : Environment) where
   chain-answered : (h : Held) → Fitting (h .rec) → {s last : Slices} {calls : List Call} {answers : List GrantCall} → s ≡ slicesOf h →
-      Chain image input s calls answers last → Answered image input h calls answers last
+      Chain e s calls answers last → Answered e h calls answers last
   unfolding gives leaves allReplied
-  chain-answered h w e nothing = record { answers-are = refl; last-is = e }
-  chain-answered h w e (called {s} {c} {x} {cs} q ch) =
-      let g = granted image input (h .rec) (h .registers) (h .cells) c in
-      let n = next image input h w c in
-      let y : x ≡ grantReplied g (numbersOf (h .rec)) =
-      sym q ∙ ap (λ (t : Slices). takGrant (t .numbers) (c .cycles) image input (t .registers) (t .cells) (c .slice)) e ∙ answered image input h w c in
-      let t = chain-answered (heldAfter g) (n .fitting) (ap slicesAfter y ∙ after image input h w c) ch in
+  chain-answered h w i nothing = record { answers-are = refl; last-is = i }
+  chain-answered h w i (called {s} {c} {x} {cs} q ch) =
+      let g = granted e h c in
+      let n = next e h w c in
+      let y : x ≡ grantReplied g (numbersOf (h .rec)) = sym q ∙ ap (λ (t : Slices). takGrant e t c) i ∙ answered e h w c in
+      let t = chain-answered (heldAfter g) (n .fitting) (ap (λ (z : GrantCall). z .slices) y ∙ after e h w c) ch in
       record {
-        answers-are = (λ i. y i ∷ t .answers-are i) ∙ ap (λ (l : List ℤ). grantReplied g (numbersOf (h .rec)) ∷ allReplied l (gives image input (heldAfter g) cs)) (sym (n .numbers));
+        answers-are = (λ j. y j ∷ t .answers-are j)
+        ∙ ap (λ (l : List ℤ). grantReplied g (numbersOf (h .rec)) ∷ allReplied l (gives e (heldAfter g) cs)) (sym (n .numbers));
         last-is = t .last-is;
       }
 
@@ -91,41 +86,42 @@ sized : (b : Bool) (y z : StartCall) → z .number ≡ 100 → cond b y z .numbe
 sized true y z h k = refl
 sized false y z h k = absurd (omega (arith, h, k))
 
-module _ (p : Parameters) (image input : List ℕ) (registers cells numbers : List ℤ) (x : StartCall)
-    (is : takStart p image registers cells numbers ≡ x) (accepted : x .number ≡ 0) where
+module _ (e : Environment) (s : Slices) (x : StartCall)
+    (is : takStart (environmentOf (e .parameters) (e .image) []) s ≡ x) (accepted : x .number ≡ 0) where
   abbrev begun : Started
-  begun = started p image registers cells
+  begun = started e (s .memory)
 
-  replied : x ≡ startReplied begun numbers
+  replied : x ≡ startReplied begun (s .numbers)
   unfolding takStart
   replied =
       sym is
-      ∙ sized (eqb (length numbers) recordLength) (startReplied begun numbers) _ refl (ap (λ (y : StartCall). y .number) is ∙ accepted)
+      ∙ sized (eqb (length (s .numbers)) recordLength) (startReplied (started _ (s .memory)) (s .numbers)) _ refl
+      (ap (λ (y : StartCall). y .number) is ∙ accepted)
+      ∙ ap (λ (y : Started). startReplied y (s .numbers)) (input-unread e (s .memory))
 
   number : begun .reply .refusal ≡ 0
   number = ap (λ (y : StartCall). y .number) (sym replied) ∙ accepted
 
-  passed : refusalOf (startChecks p image registers cells) ≡ 0
-  passed = sym (start-number p image registers cells) ∙ number
+  passed : refusalOf (startChecks e (s .memory)) ≡ 0
+  passed = sym (start-number e (s .memory)) ∙ number
 
   started-fitting : Fitting (begun .reply .rec)
-  started-fitting =
-      rw (started-accepted (environmentOf p image input) registers cells passed)
-      (fresh-fitting p (start-accepted p image registers cells passed .fit))
+  started-fitting = rw (started-accepted e (s .memory) passed) (fresh-fitting (e .parameters) (start-accepted e (s .memory) passed .fit))
 
-  begins : slicesAfterStart x ≡ slicesOf (heldAfterStart begun)
+  begins : x .slices ≡ slicesOf (heldAfterStart begun)
   unfolding recordAfter
-  begins = ap slicesAfterStart replied ∙ rw (eq-eqb _ 0 number)
+  begins = ap (λ (y : StartCall). y .slices) replied ∙ rw (eq-eqb _ 0 number)
 
-  -- "A list of grants starts from the record and memory that an accepted start with the list's image left."
-  pub calls-demand3 : (calls : List Call) (answers : List GrantCall) (last : Slices) → Chain image input (slicesAfterStart x) calls answers last →
-      CallsDemand3 (environmentOf p image input) (x .numbers) calls answers last
+  -- "A list of grants starts from the record and memory that an accepted start with the list's image left." Start is lent no input.
+  pub calls-demand3 : (calls : List Call) (answers : List GrantCall) (last : Slices) → Chain e (x .slices) calls answers last →
+      CallsDemand3 e (x .slices .numbers) calls answers last
   calls-demand3 calls answers last ch =
-      let t = chain-answered image input (heldAfterStart begun) started-fitting begins ch in
+      let from = heldAfterStart begun in
+      let t = chain-answered e from started-fitting begins ch in
       record {
-        given = gives image input (heldAfterStart begun) calls;
-        held = leaves image input (heldAfterStart begun) calls;
-        demand3 = demand3 p image input registers cells calls passed;
-        answered = t .answers-are ∙ ap (λ (s : Slices). allReplied (s .numbers) (gives image input (heldAfterStart begun) calls)) (sym begins);
+        given = gives e from calls;
+        held = leaves e from calls;
+        demand3 = demand3 e (s .memory) calls passed;
+        answered = t .answers-are ∙ ap (λ (r : Slices). allReplied (r .numbers) (gives e from calls)) (sym begins);
         left = t .last-is;
       }

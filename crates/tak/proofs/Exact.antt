@@ -13,13 +13,13 @@ use borrow.Author.Tests.{eq-eqb, le-leb}
 use Rattle.model.proofs.Fits.{limits, grant-accepted}
 use Rattle.model.proofs.GrantKeeps.{record-sound, grant-kept}
 use Rattle.model.proofs.Refusals.{grant-number}
-use Rattle.model.specs.Calls.{freshRecord, accountOf, granted, grantRefusal, outcomeNumber}
+use Rattle.model.specs.Calls.{Held, environmentFor, freshRecord, accountOf, granted, grantRefusal, outcomeNumber}
 use Rattle.model.specs.Grants.{Account, Call}
 use Rattle.model.specs.Parameters.{Fit}
-use Rattle.model.specs.Step.{Environment, State, environmentOf}
+use Rattle.model.specs.Step.{Environment, State}
 use Rattle.model.specs.declared.Parameters.{Parameters}
 use Rattle.model.specs.declared.Record.{Record}
-use Rattle.tak.specs.Calls.{takGrant}
+use Rattle.tak.specs.Calls.{Slices, heldIn, takGrant}
 use Rattle.tak.specs.Records.{held, most32, most64, at, recordFrom, numbersOf, recordLength}
 
 -- EXACT
@@ -42,21 +42,21 @@ all-elements : (n i : ℕ) (l : List ℤ) → i + n ≡ length l → elements n 
 all-elements zero i l h = sym (drop-of-length-le l {i = i} (omega arith))
 all-elements (suc n) i l h = rw (all-elements n (suc i) l (omega arith)) (sym (drop-cons l i (pos 0) (omega arith)))
 
-module _ (image input : List ℕ) (cycles : ℕ) (numbers registers cells output : List ℤ) where
+module _ (lent : Environment) (s : Slices) (c : Call) where
+  abbrev numbers : List ℤ
+  numbers = s .numbers
+
   abbrev e : Environment
-  e = environmentOf (recordFrom numbers .parameters) image input
+  e = environmentFor lent (heldIn s)
 
   abbrev account : Account State
-  account = accountOf (recordFrom numbers) registers cells
+  account = accountOf (heldIn s)
 
-  abbrev call : Call
-  call = record { cycles = cycles; slice = output }
-
-  fields-exact : length numbers ≡ recordLength → grantRefusal e account call ≡ 0 → numbersOf (recordFrom numbers) ≡ numbers
+  fields-exact : length numbers ≡ recordLength → grantRefusal e account c ≡ 0 → numbersOf (recordFrom numbers) ≡ numbers
   fields-exact h r =
-      let g = grant-accepted e account call r in
+      let g = grant-accepted e account c r in
       let l = limits (recordFrom numbers .parameters) (g .start .fit) in
-      let a = record-sound e account (g .record-fits) (g .start .register-count) (g .start .cell-count) in
+      let a = record-sound e account (g .record-fits) (g .start .sized) in
       let same : numbersOf (recordFrom numbers) ≡ elements recordLength 0 numbers =
       λ i.
       held-exact most32 (at numbers 0) (omega (arith, l .k-high)) i
@@ -74,13 +74,13 @@ module _ (image input : List ℕ) (cycles : ℕ) (numbers registers cells output
       same ∙ all-elements recordLength 0 numbers (omega arith)
 
   -- An accepted call of `tak_grant` was given the numbers of a record.
-  pub accepted-exact : length numbers ≡ recordLength → takGrant numbers cycles image input registers cells output .number ≡ 0 →
+  pub accepted-exact : length numbers ≡ recordLength → takGrant lent s c .number ≡ 0 →
       numbersOf (recordFrom numbers) ≡ numbers
   unfolding takGrant
   accepted-exact h z =
-      let n : outcomeNumber (granted image input (recordFrom numbers) registers cells call .reply .outcome) ≡ 0 =
+      let n : outcomeNumber (granted lent (heldIn s) c .reply .outcome) ≡ 0 =
       rw (eq-eqb (length numbers) recordLength h) at z in
-      fields-exact h (sym (grant-number image input (recordFrom numbers) registers cells call) ∙ n)
+      fields-exact h (sym (grant-number lent (heldIn s) c) ∙ n)
 
 -- READ BACK
 -- Every field is one that its bits hold.
@@ -134,25 +134,22 @@ fresh-fitting p f =
       spent = omega arith;
     }
 
-module _ (image input : List ℕ) (r : Record) (registers cells : List ℤ) (c : Call) where
-  abbrev of : Environment
-  of = environmentOf (r .parameters) image input
-
-  pub granted-fitting : grantRefusal of (accountOf r registers cells) c ≡ 0 → Fitting (granted image input r registers cells c .reply .rec)
-  unfolding granted
-  granted-fitting z =
-      let g = grant-accepted of (accountOf r registers cells) c z in
-      let a = grant-kept of (accountOf r registers cells) c z .sound in
-      let l = limits (r .parameters) (g .start .fit) in
-      record {
-        k = omega (arith, l .k-high);
-        n = omega (arith, l .n-high);
-        s = omega (arith, l .s-high);
-        b = omega (arith, l .b-high, l .s-high);
-        t = omega (arith, l .t-high);
-        iar = omega (arith, a .state .iar, l .t-high);
-        ircr = omega (arith, a .state .ircr);
-        place = omega (arith, a .state .place, g .input-length);
-        granted = omega (arith, a .granted);
-        spent = omega (arith, a .spent, a .granted);
-      }
+pub granted-fitting : (e : Environment) (held : Held) (c : Call) → grantRefusal (environmentFor e held) (accountOf held) c ≡ 0 →
+    Fitting (granted e held c .reply .rec)
+unfolding granted
+granted-fitting e held c z =
+    let g = grant-accepted (environmentFor e held) (accountOf held) c z in
+    let a = grant-kept (environmentFor e held) (accountOf held) c z .sound in
+    let l = limits (held .rec .parameters) (g .start .fit) in
+    record {
+      k = omega (arith, l .k-high);
+      n = omega (arith, l .n-high);
+      s = omega (arith, l .s-high);
+      b = omega (arith, l .b-high, l .s-high);
+      t = omega (arith, l .t-high);
+      iar = omega (arith, a .state .iar, l .t-high);
+      ircr = omega (arith, a .state .ircr);
+      place = omega (arith, a .state .place, g .input-length);
+      granted = omega (arith, a .granted);
+      spent = omega (arith, a .spent, a .granted);
+    }

@@ -10,8 +10,9 @@ use Rattle.model.specs.declared.Ending.the-variants.{Failed, Ended, Paused, Out
 use Rattle.model.specs.declared.Outcome.{Outcome}
 use Rattle.model.specs.declared.Outcome.the-variants.{Refused, Stopped}
 use Rattle.model.specs.declared.Parameters.{Parameters}
-use Rattle.model.specs.declared.Record.{Record}
-use Rattle.model.specs.Calls.{Started, started, Granted, granted, outcomeNumber, Spelled, spelled}
+use Rattle.model.specs.Calls.{Held, Started, started, Granted, granted, outcomeNumber, Spelled, spelled}
+use Rattle.model.specs.Grants.{Call}
+use Rattle.model.specs.Step.{Environment, Memory, asMemory}
 use Rattle.model.specs.Load.{loadReply, imageAfter, loadRefusal, loadLines, loadLine}
 use Rattle.tak.specs.Records.{recordFrom, recordAfter, recordLength}
 
@@ -36,29 +37,35 @@ takLoad p text image =
       image = imageAfter p text image (loadReply p text image);
     }
 
--- START: what it returns, the registers, the data cells and the record.
+-- THE SLICES that a caller keeps from call to call: the record, as numbers, and the memory.
+pub record Slices : Type 0 where
+  pub numbers : List ℤ
+  pub memory : Memory
+
+abbrev pub asSlices : (numbers registers cells : List ℤ) → Slices
+asSlices numbers registers cells = record { numbers = numbers; memory = asMemory registers cells }
+
+-- The record and memory that they are.
+abbrev pub heldIn : Slices → Held
+heldIn s = record { rec = recordFrom (s .numbers); memory = s .memory }
+
+-- START: what it returns, and the slices.
 pub record StartCall : Type 0 where
   pub number : ℕ
-  pub registers : List ℤ
-  pub cells : List ℤ
-  pub numbers : List ℤ
+  pub slices : Slices
 
 -- A start that document 01 answers by x.
 abbrev pub startReplied : Started → (numbers : List ℤ) → StartCall
 startReplied x numbers =
     record {
       number = x .reply .refusal;
-      registers = x .registers;
-      cells = x .cells;
-      numbers = recordAfter (x .reply .refusal) (x .reply .rec) numbers;
+      slices = record { numbers = recordAfter (x .reply .refusal) (x .reply .rec) numbers; memory = x .memory };
     }
 
--- A record slice that has not 11 numbers is refused first, by TAK_RECORD_SIZE, 100; else document 01 answers.
-unfoldable pub takStart : Parameters → (image : List ℕ) (registers cells numbers : List ℤ) → StartCall
-takStart p image registers cells numbers =
-    cond (eqb (length numbers) recordLength)
-    (startReplied (started p image registers cells) numbers)
-    (record { number = 100; registers = registers; cells = cells; numbers = numbers })
+-- A record slice of another length is refused first, by TAK_RECORD_SIZE, 100; else document 01 answers.
+unfoldable pub takStart : Environment → Slices → StartCall
+takStart e s =
+    cond (eqb (length (s .numbers)) recordLength) (startReplied (started e (s .memory)) (s .numbers)) (record { number = 100; slices = s })
 
 -- TAK_FAILED, TAK_ENDED, TAK_PAUSED, TAK_OUTPUT_FULL.
 abbrev pub endingNumber : Ending → ℕ
@@ -72,46 +79,34 @@ abbrev pub outcomeEnding : Outcome → ℕ
 outcomeEnding (Refused k) = 0
 outcomeEnding (Stopped e) = endingNumber e
 
--- GRANT: what it returns, the numbers behind its pointers, the record, the registers, the data cells and the output slice.
+-- GRANT: what it returns, the numbers behind its pointers, the slices, and the output slice.
 pub record GrantCall : Type 0 where
   pub number : ℕ
   pub ending : ℕ
   pub values : ℕ
   pub spent : ℕ
-  pub numbers : List ℤ
-  pub registers : List ℤ
-  pub cells : List ℤ
+  pub slices : Slices
   pub output : List ℤ
 
 -- A grant that document 01 answers by x.
 abbrev pub grantReplied : Granted → (numbers : List ℤ) → GrantCall
 grantReplied x numbers =
+    let number = outcomeNumber (x .reply .outcome) in
     record {
-      number = outcomeNumber (x .reply .outcome);
+      number = number;
       ending = outcomeEnding (x .reply .outcome);
       values = x .reply .values;
       spent = x .reply .cycles;
-      numbers = recordAfter (outcomeNumber (x .reply .outcome)) (x .reply .rec) numbers;
-      registers = x .registers;
-      cells = x .cells;
+      slices = record { numbers = recordAfter number (x .reply .rec) numbers; memory = x .memory };
       output = x .slice;
     }
 
--- The same check first; else document 01 answers, for the record that the slice is.
-unfoldable pub takGrant : (numbers : List ℤ) (cycles : ℕ) (image input : List ℕ) (registers cells output : List ℤ) → GrantCall
-takGrant numbers cycles image input registers cells output =
-    cond (eqb (length numbers) recordLength)
-    (grantReplied (granted image input (recordFrom numbers) registers cells (record { cycles = cycles; slice = output })) numbers)
-    (record {
-      number = 100;
-      ending = 0;
-      values = 0;
-      spent = 0;
-      numbers = numbers;
-      registers = registers;
-      cells = cells;
-      output = output;
-    })
+-- The same check first; else document 01 answers, for the record that the slice is, which has the parameters too.
+unfoldable pub takGrant : Environment → Slices → Call → GrantCall
+takGrant e s c =
+    cond (eqb (length (s .numbers)) recordLength)
+    (grantReplied (granted e (heldIn s) c) (s .numbers))
+    (record { number = 100; ending = 0; values = 0; spent = 0; slices = s; output = c .slice })
 
 -- DECIMAL: what it returns, the count of bytes written, the bytes.
 pub record DecimalCall : Type 0 where

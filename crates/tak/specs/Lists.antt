@@ -1,41 +1,27 @@
 -- Lists of calls of tak_grant after a call of tak_start, known by what they were lent, returned and left alone, and demand 3 of them.
-use Prim.Native.Nat.{ℕ}
 use mathlib.Core.List.{List, [], _∷_}
 use mathlib.Core.Path.{_≡_}
 use lib.IntN.{ℤ}
-use Rattle.model.specs.Calls.{Granted}
-use Rattle.model.specs.Demand.{Held, Demand3}
+use Rattle.model.specs.Calls.{Held, Granted}
+use Rattle.model.specs.Demand.{Demand3}
 use Rattle.model.specs.Grants.{Call}
 use Rattle.model.specs.Step.{Environment}
-use Rattle.tak.specs.Calls.{StartCall, GrantCall, grantReplied, takGrant}
+use Rattle.tak.specs.Calls.{Slices, GrantCall, grantReplied, takGrant}
 use Rattle.tak.specs.Records.{numbersOf}
-
--- The slices that a caller keeps from call to call: the record, the registers and the data cells.
-pub record Slices : Type 0 where
-  pub numbers : List ℤ
-  pub registers : List ℤ
-  pub cells : List ℤ
-
--- What a call leaves of them.
-abbrev pub slicesAfterStart : StartCall → Slices
-slicesAfterStart x = record { numbers = x .numbers; registers = x .registers; cells = x .cells }
-
-abbrev pub slicesAfter : GrantCall → Slices
-slicesAfter x = record { numbers = x .numbers; registers = x .registers; cells = x .cells }
 
 -- From the slices `s`: the calls, what each returned and left, and the slices after the last one. Each is lent the slices that the one before it
 -- left and the same image and input, and nobody else writes these meanwhile.
-pub data Chain (image input : List ℕ) : (s : Slices) → List Call → List GrantCall → (last : Slices) → Type 0 where
-  nothing : {s : Slices} → Chain image input s [] [] s
+pub data Chain (e : Environment) : (s : Slices) → List Call → List GrantCall → (last : Slices) → Type 0 where
+  nothing : {s : Slices} → Chain e s [] [] s
   called : {s last : Slices} {c : Call} {x : GrantCall} {cs : List Call} {xs : List GrantCall} →
-      takGrant (s .numbers) (c .cycles) image input (s .registers) (s .cells) (c .slice) ≡ x →
-      Chain image input (slicesAfter x) cs xs last →
-      Chain image input s (c ∷ cs) (x ∷ xs) last
+      takGrant e s c ≡ x →
+      Chain e (x .slices) cs xs last →
+      Chain e s (c ∷ cs) (x ∷ xs) last
 
 -- What calls return and leave that document 01 answers by xs, from a record slice on.
 unfoldable pub allReplied : (numbers : List ℤ) → List Granted → List GrantCall
 allReplied numbers [] = []
-allReplied numbers (x ∷ xs) = grantReplied x numbers ∷ allReplied (grantReplied x numbers .numbers) xs
+allReplied numbers (x ∷ xs) = grantReplied x numbers ∷ allReplied (grantReplied x numbers .slices .numbers) xs
 
 -- DEMAND 3 of calls from C: they returned and left what grants do of which demand 3 holds.
 pub record CallsDemand3 (e : Environment) (numbers : List ℤ) (calls : List Call) (answers : List GrantCall) (last : Slices) : Type 0 where
@@ -43,4 +29,4 @@ pub record CallsDemand3 (e : Environment) (numbers : List ℤ) (calls : List Cal
   pub held : Held
   pub demand3 : Demand3 e calls given held
   pub answered : answers ≡ allReplied numbers given
-  pub left : last ≡ record { numbers = numbersOf (held .rec); registers = held .registers; cells = held .cells }
+  pub left : last ≡ record { numbers = numbersOf (held .rec); memory = held .memory }

@@ -3,9 +3,12 @@
 pub mod records;
 
 ghost use mathlib.Core.Path.{_≡_};
-ghost use Rattle.model.specs.Calls.{outcomeNumber};
+ghost use mathlib.Core.List.{[]};
+ghost use Rattle.model.specs.Calls.{asCall, outcomeNumber};
+ghost use Rattle.model.specs.Step.{environmentOf};
 ghost use Rattle.model.specs.Load.{loadNumbers};
-ghost use Rattle.tak.specs.Calls.{parametersOf, endingNumber, outcomeEnding, takLoad, takStart, takGrant, takDecimal};
+ghost use Rattle.tak.specs.Calls.{asSlices, parametersOf, endingNumber, outcomeEnding, takLoad, takStart, takGrant, takDecimal};
+ghost use Rattle.tak.specs.Records.{recordFrom};
 use crate::records::RECORD;
 use crate::records::hand_back;
 use crate::records::record_from;
@@ -98,7 +101,8 @@ pub extern "C" fn tak_load(
     lines: &mut u64,
     line: &mut u64,
 ) -> u32
-    ensures { λ r. ⌜ takLoad (parametersOf k n s b t) (now (text .entry)) (now (image .entry)) ≡ record { number = r; lines = now (lines .exit); line = now (line .exit); image = now (image .exit) } ⌝ }
+    ensures { λ r. ⌜ takLoad (parametersOf k n s b t) (now (text .entry)) (now (image .entry))
+        ≡ record { number = r; lines = now (lines .exit); line = now (line .exit); image = now (image .exit) } ⌝ }
 {
     let p = Parameters { k, n, s, b, t };
     let reported = load_numbers(load(p, text, image));
@@ -120,7 +124,9 @@ pub extern "C" fn tak_start(
     cells: &mut [i32],
     numbers: &mut [i64],
 ) -> u32
-    ensures { λ r. ⌜ takStart (parametersOf k n s b t) (now (image .entry)) (now (registers .entry)) (now (cells .entry)) (now (numbers .entry)) ≡ record { number = r; registers = now (registers .exit); cells = now (cells .exit); numbers = now (numbers .exit) } ⌝ }
+    ensures { λ r. ⌜ takStart (environmentOf (parametersOf k n s b t) (now (image .entry)) [])
+        (asSlices (now (numbers .entry)) (now (registers .entry)) (now (cells .entry)))
+        ≡ record { number = r; slices = asSlices (now (numbers .exit)) (now (registers .exit)) (now (cells .exit)) } ⌝ }
 {
     if numbers.len() != RECORD {
         return RECORD_SIZE;
@@ -141,7 +147,10 @@ fn grant_to(
     cells: &mut [i32],
     output: &mut [i32],
 ) -> GrantNumbers
-    ensures { λ r. ⌜ takGrant (now (numbers .entry)) cycles (now (image .entry)) (now (input .entry)) (now (registers .entry)) (now (cells .entry)) (now (output .entry)) ≡ record { number = r .refusal; ending = r .ending; values = r .values; spent = r .spent; numbers = now (numbers .exit); registers = now (registers .exit); cells = now (cells .exit); output = now (output .exit) } ⌝ }
+    ensures { λ r. ⌜ takGrant (environmentOf (recordFrom (now (numbers .entry)) .parameters) (now (image .entry)) (now (input .entry)))
+        (asSlices (now (numbers .entry)) (now (registers .entry)) (now (cells .entry))) (asCall cycles (now (output .entry)))
+        ≡ record { number = r .refusal; ending = r .ending; values = r .values; spent = r .spent;
+            slices = asSlices (now (numbers .exit)) (now (registers .exit)) (now (cells .exit)); output = now (output .exit) } ⌝ }
 {
     if numbers.len() != RECORD {
         return GrantNumbers {
@@ -178,7 +187,10 @@ pub extern "C" fn tak_grant(
     values: &mut u64,
     spent: &mut u64,
 ) -> u32
-    ensures { λ r. ⌜ takGrant (now (numbers .entry)) cycles (now (image .entry)) (now (input .entry)) (now (registers .entry)) (now (cells .entry)) (now (output .entry)) ≡ record { number = r; ending = now (ending .exit); values = now (values .exit); spent = now (spent .exit); numbers = now (numbers .exit); registers = now (registers .exit); cells = now (cells .exit); output = now (output .exit) } ⌝ }
+    ensures { λ r. ⌜ takGrant (environmentOf (recordFrom (now (numbers .entry)) .parameters) (now (image .entry)) (now (input .entry)))
+        (asSlices (now (numbers .entry)) (now (registers .entry)) (now (cells .entry))) (asCall cycles (now (output .entry)))
+        ≡ record { number = r; ending = now (ending .exit); values = now (values .exit); spent = now (spent .exit);
+            slices = asSlices (now (numbers .exit)) (now (registers .exit)) (now (cells .exit)); output = now (output .exit) } ⌝ }
 {
     let reported = grant_to(numbers, cycles, image, input, registers, cells, output);
     *ending = reported.ending;
