@@ -1,11 +1,10 @@
 -- A grant whose output slice has room for any step stops for a full output only after a step. Assumes nothing.
 use Prim.Native.Nat.{ℕ, zero, suc, _+_, _-_, _≤_, _<_}
 use mathlib.Core.Bool.{Bool, true, false}
-use mathlib.Core.List.{List, []}
+use mathlib.Core.List.{[]}
 use mathlib.Core.Path.{_≡_, refl, sym, ap, _∙_}
 use native.Mathlib.Nat.{le-refl}
 use native.Mathlib.Omega.{arith}
-use lib.IntN.{ℤ}
 use lib.ListN.{length}
 use borrow.Author.Tests.{ltb-true}
 use Rattle.model.proofs.Costs.{priced, tak-run}
@@ -16,16 +15,15 @@ use Rattle.model.proofs.Laws.{going}
 use Rattle.model.proofs.Lists as lists
 use Rattle.model.proofs.Loop.{run-keeps}
 use Rattle.model.proofs.Refusals.{grant-refused}
-use Rattle.model.specs.Calls.{accountOf, Granted, granted, grantRefusal}
+use Rattle.model.specs.Calls.{Held, environmentFor, accountOf, Granted, granted, grantRefusal}
 use Rattle.model.specs.Grants.{Call, Account, Standing, Stop, advance, run, accept, handBack}
 use Rattle.model.specs.Instructions.{Operation, clearRegisters, clearCells, dumpRegisters, dumpCells, inputs, outputs, pushes, pops, skips, idles, writes, jumps, jumpsOn}
 use Rattle.model.specs.Machine.{Status, running, Look, stops, goes, look, lookAt}
 use Rattle.model.specs.Parameters.{Fit}
-use Rattle.model.specs.Step.{Environment, State, Tak, writtenBy, currentCell, currentOperation, stateStatus, stepCost, stepValues, environmentOf}
+use Rattle.model.specs.Step.{Environment, State, Tak, writtenBy, currentCell, currentOperation, stateStatus, stepCost, stepValues}
 use Rattle.model.specs.declared.Ending.{Ending}
 use Rattle.model.specs.declared.Ending.the-variants.{Failed, Ended, Paused, OutputFull}
 use Rattle.model.specs.declared.Outcome.the-variants.{Stopped}
-use Rattle.model.specs.declared.Record.{Record}
 use Rattle.model.specs.Program.{isFull}
 use Rattle.session.specs.Sessions.{Progress}
 
@@ -73,7 +71,7 @@ module _ (e : Environment) (a : Account State) (c : Call) (h : grantRefusal e a 
   sound : Sound e (a .state)
   sound =
       let g = grant-accepted e a c h in
-      record-sound e a (g .record-fits) (g .start .register-count) (g .start .cell-count) .state
+      record-sound e a (g .record-fits) (g .start .sized) .state
 
   -- The first look finds room, so that what stops for a full output has taken a step.
   stop-spends : stop .ending ≡ OutputFull → a .spent < stop .at .spent
@@ -102,25 +100,24 @@ full-ending Ended h = cc
 full-ending Paused h = cc
 full-ending OutputFull h = refl
 
-module _ (image input : List ℕ) (r : Record) (registers cells : List ℤ) (c : Call) (room : 4096 ≤ length (c .slice)) where
-  abbrev place : Environment
-  place = environmentOf (r .parameters) image input
+module _ (e : Environment) (h : Held) (c : Call) (room : 4096 ≤ length (c .slice)) where
+  abbrev lent : Environment
+  lent = environmentFor e h
 
   abbrev before : Account State
-  before = accountOf r registers cells
+  before = accountOf h
 
   -- After a full output more is spent than before, and not more than granted.
-  pub full-progress : isFull (granted image input r registers cells c .reply .outcome) ≡ true →
-      Progress r (c .cycles) (granted image input r registers cells c .reply .rec)
+  pub full-progress : isFull (granted e h c .reply .outcome) ≡ true → Progress (h .rec) (c .cycles) (granted e h c .reply .rec)
   unfolding granted accept handBack
-  full-progress full = go (grantRefusal place before c) refl
+  full-progress full = go (grantRefusal lent before c) refl
     where
-      go : (k : ℕ) → grantRefusal place before c ≡ k → Progress r (c .cycles) (granted image input r registers cells c .reply .rec)
-      go zero h =
-          let kept = grant-kept place before c h in
-          let e = lists.grant-accepted (Tak place) (grantRefusal place) before c h in
-          let f = rw e at full in
-          record { spends = rw e (stop-spends place before c h room (full-ending _ f)); within = kept .sound .spent; granted = kept .granted }
-      go (suc k) h =
-          let refused = ap (λ (x : Granted). isFull (x .reply .outcome)) (grant-refused image input r registers cells c k h) in
+      go : (k : ℕ) → grantRefusal lent before c ≡ k → Progress (h .rec) (c .cycles) (granted e h c .reply .rec)
+      go zero z =
+          let kept = grant-kept lent before c z in
+          let q = lists.grant-accepted (Tak lent) (grantRefusal lent) before c z in
+          let f = rw q at full in
+          record { spends = rw q (stop-spends lent before c z room (full-ending _ f)); within = kept .sound .spent; granted = kept .granted }
+      go (suc k) z =
+          let refused = ap (λ (x : Granted). isFull (x .reply .outcome)) (grant-refused e h c k z) in
           absurd (let z : _≡_ {A = ℕ} 0 1 = cc in omega arith)

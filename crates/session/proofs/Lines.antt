@@ -5,7 +5,6 @@ use mathlib.Core.List.{List, [], _∷_, _++_}
 use mathlib.Core.Path.{_≡_, refl, sym, ap, _∙_}
 use mathlib.Core.Logic.{⊎-elim}
 use native.Mathlib.Omega.{arith}
-use lib.IntN.{ℤ}
 use lib.ListN.{length, take, length-append}
 use borrow.Author.Tests.{eq-eqb, ne-eqb}
 use types.Run.{OneOf}
@@ -14,12 +13,12 @@ use Rattle.machine.specs.Contracts.{StartIs, GrantIs}
 use Rattle.model.proofs.Ending.{the-type}
 use Rattle.model.proofs.Lists as lists
 use Rattle.model.proofs.Refusals.{grant-refused}
-use Rattle.model.specs.Calls.{accountOf, started, Granted, granted, grantRefusal}
+use Rattle.model.specs.Calls.{Held, environmentFor, accountOf, Started, started, Granted, granted, grantRefusal}
 use Rattle.model.specs.Grants.{Call, accept, handBack}
 use Rattle.model.specs.Lines.{valueLines, endingLine, refusalLine}
 use Rattle.model.specs.Load.{loadReply, imageAfter}
 use Rattle.model.specs.Program.{isFull, lastLines, replyLines, sliceValues}
-use Rattle.model.specs.Step.{Tak, environmentOf}
+use Rattle.model.specs.Step.{Environment, Memory, Tak, environmentOf}
 use Rattle.model.specs.declared.Ending.{Ending}
 use Rattle.model.specs.declared.Ending.the-variants.{Failed, Ended, Paused, OutputFull}
 use Rattle.model.specs.declared.GrantReply.{GrantReply}
@@ -27,7 +26,6 @@ use Rattle.model.specs.declared.LoadReply.{LoadReply}
 use Rattle.model.specs.declared.LoadReply.the-variants as load
 use Rattle.model.specs.declared.Outcome.the-variants as outcome
 use Rattle.model.specs.declared.Parameters.{Parameters}
-use Rattle.model.specs.declared.Record.{Record}
 use Rattle.model.specs.declared.StartReply.{StartReply}
 use Rattle.model.specs.Parameters.{maxGrant}
 use Rattle.session.proofs.Pieces.{put-then, put-front}
@@ -45,48 +43,48 @@ start-line : (k : ℕ) → ¬ (k ≡ 0) → refusalLine k 0 ≡ startLine k
 start-line zero h = absurd (h refl)
 start-line (suc k) h = refl
 
-module _ (p : Parameters) (image : List ℕ) (registers₀ cells₀ : List ℤ) (lines₀ : List ℕ) {s : StartReply} {registers₁ cells₁ : List ℤ}
-    (is : StartIs p image registers₀ cells₀ s registers₁ cells₁) where
-  number : s .refusal ≡ started p image registers₀ cells₀ .reply .refusal
-  number = ap (λ (x : StartReply). x .refusal) (is .reply)
+module _ (e : Environment) (memory₀ : Memory) (lines₀ : List ℕ) {x : Started} (is : StartIs e memory₀ x) where
+  abbrev s : StartReply
+  s = x .reply
+
+  number : s .refusal ≡ started e memory₀ .reply .refusal
+  number = ap (λ (y : Started). y .reply .refusal) (is .given)
 
   pub not-begun : ¬ (s .refusal ≡ 0) → {lines₁ : List ℕ} {r : ℕ} → Put lines₀ 0 (refusalLine (s .refusal) 0) lines₁ r →
-      BeginIs p image registers₀ cells₀ lines₀ (record { count = r; more = false; rec = s .rec; cycles = 0 }) registers₁ cells₁ lines₁
+      BeginIs e memory₀ lines₀ (record { count = r; more = false; rec = s .rec; cycles = 0 }) (x .memory) lines₁
   not-begun h put =
       record {
         shows = shown (refusalLine (s .refusal) 0) (start-line (s .refusal) h ∙ ap startLine number) put;
-        more = sym (ne-eqb (started p image registers₀ cells₀ .reply .refusal) 0 (λ e. h (number ∙ e)));
-        rec = ap (λ (x : StartReply). x .rec) (is .reply);
-        cycles = λ e. absurd (false≢true e);
-        registers = is .registers;
-        cells = is .cells;
+        more = sym (ne-eqb (started e memory₀ .reply .refusal) 0 (λ q. h (number ∙ q)));
+        rec = ap (λ (y : Started). y .reply .rec) (is .given);
+        cycles = λ q. absurd (false≢true q);
+        memory = ap (λ (y : Started). y .memory) (is .given);
       }
 
   pub has-begun : s .refusal ≡ 0 →
-      BeginIs p image registers₀ cells₀ lines₀ (record { count = 0; more = true; rec = s .rec; cycles = maxGrant }) registers₁ cells₁ lines₀
+      BeginIs e memory₀ lines₀ (record { count = 0; more = true; rec = s .rec; cycles = maxGrant }) (x .memory) lines₀
   has-begun h =
       let none = sym number ∙ h in
       record {
         shows = rw none (record { count = refl; lines = refl });
-        more = sym (eq-eqb (started p image registers₀ cells₀ .reply .refusal) 0 none);
-        rec = ap (λ (x : StartReply). x .rec) (is .reply);
-        cycles = λ e. refl;
-        registers = is .registers;
-        cells = is .cells;
+        more = sym (eq-eqb (started e memory₀ .reply .refusal) 0 none);
+        rec = ap (λ (y : Started). y .reply .rec) (is .given);
+        cycles = λ q. refl;
+        memory = ap (λ (y : Started). y .memory) (is .given);
       }
 
 -- LOAD, THEN START
-module _ (p : Parameters) (text image₀ image₁ : List ℕ) (registers₀ cells₀ : List ℤ) (lines₀ : List ℕ) {l : LoadReply}
+module _ (p : Parameters) (text image₀ image₁ : List ℕ) (memory₀ : Memory) (lines₀ : List ℕ) {l : LoadReply}
     (is : l ≡ loadReply p text image₀) (image : image₁ ≡ imageAfter p text image₀ l) where
   pub not-loaded : {k i : ℕ} → l ≡ load.Refused k i → {lines₁ : List ℕ} (r : Report) → r .more ≡ false →
-      Put lines₀ 0 (refusalLine k i) lines₁ (r .count) → OpenIs p text image₀ registers₀ cells₀ lines₀ r image₁ registers₀ cells₀ lines₁
+      Put lines₀ 0 (refusalLine k i) lines₁ (r .count) → OpenIs p text image₀ memory₀ lines₀ r image₁ memory₀ lines₁
   not-loaded e r more put =
       let q = sym is ∙ e in
-      record { image = image ∙ rw is; by = rw q (record { shows = shown _ refl put; more = more; registers = refl; cells = refl }) }
+      record { image = image ∙ rw is; by = rw q (record { shows = shown _ refl put; more = more; memory = refl }) }
 
-  pub has-loaded : {n : ℕ} → l ≡ load.Accepted n → {r : Report} {registers₁ cells₁ : List ℤ} {lines₁ : List ℕ} →
-      BeginIs p image₁ registers₀ cells₀ lines₀ r registers₁ cells₁ lines₁ →
-      OpenIs p text image₀ registers₀ cells₀ lines₀ r image₁ registers₁ cells₁ lines₁
+  pub has-loaded : {n : ℕ} → l ≡ load.Accepted n → {r : Report} {memory₁ : Memory} {lines₁ : List ℕ} →
+      BeginIs (environmentOf p image₁ []) memory₀ lines₀ r memory₁ lines₁ →
+      OpenIs p text image₀ memory₀ lines₀ r image₁ memory₁ lines₁
   has-loaded e begins = let q = sym is ∙ e in record { image = image ∙ rw is; by = rw q begins }
 
 -- THE LAST LINE
@@ -115,12 +113,15 @@ module _ (g : GrantReply) {lines : List ℕ} {at : ℕ} where
   ended-line OutputFull e n p = absurd (⊎-elim (λ k. omega arith) (λ m. ⊎-elim (λ k. omega arith) (λ k. omega arith) m) n)
 
 -- A GRANT
-module _ (image input : List ℕ) (r : Record) (registers cells : List ℤ) (c : Call) where
+module _ (e : Environment) (h : Held) (c : Call) where
+  abbrev lent : Environment
+  lent = environmentFor e h
+
   abbrev result : Granted
-  result = granted image input r registers cells c
+  result = granted e h c
 
   abbrev refusal : ℕ
-  refusal = grantRefusal (environmentOf (r .parameters) image input) (accountOf r registers cells) c
+  refusal = grantRefusal lent (accountOf h) c
 
   -- The values that a grant says it wrote stand in its slice.
   pub values-fit : result .reply .values ≤ length (result .slice)
@@ -128,42 +129,33 @@ module _ (image input : List ℕ) (r : Record) (registers cells : List ℤ) (c :
   values-fit = go refusal refl
     where
       go : (k : ℕ) → refusal ≡ k → result .reply .values ≤ length (result .slice)
-      go zero h =
-          let e = environmentOf (r .parameters) image input in
-          rw (lists.grant-accepted (Tak e) (grantRefusal e) (accountOf r registers cells) c h) (rw length-append (omega arith))
-      go (suc k) h =
-          let e = grant-refused image input r registers cells c k h in
-          omega (arith, ap (λ (x : Granted). x .reply .values) e)
+      go zero z = rw (lists.grant-accepted (Tak lent) (grantRefusal lent) (accountOf h) c z) (rw length-append (omega arith))
+      go (suc k) z = let q = grant-refused e h c k z in omega (arith, ap (λ (x : Granted). x .reply .values) q)
 
-pub written-fits : {image input : List ℕ} {r : Record} {cycles : ℕ} {registers₀ cells₀ values₀ : List ℤ} {g : GrantReply} {registers₁ cells₁ values₁ : List ℤ} →
-    GrantIs image input r cycles registers₀ cells₀ values₀ g registers₁ cells₁ values₁ → g .values ≤ length values₁
-written-fits {image} {input} {r} {cycles} {registers₀} {cells₀} {values₀} is =
-    rw (is .reply, is .slice) (values-fit image input r registers₀ cells₀ (record { cycles = cycles; slice = values₀ }))
+pub written-fits : {e : Environment} {h : Held} {c : Call} {x : Granted} → GrantIs e h c x → x .reply .values ≤ length (x .slice)
+written-fits {e} {h} {c} is = rw (is .given) (values-fit e h c)
 
 -- Its lines.
-pub reported : (image input : List ℕ) (r : Record) (cycles : ℕ) (registers₀ cells₀ values₀ : List ℤ) (lines₀ : List ℕ)
-    {g : GrantReply} {registers₁ cells₁ values₁ : List ℤ} {lines lines₁ : List ℕ} {at : ℕ} {t : Report} →
-    GrantIs image input r cycles registers₀ cells₀ values₀ g registers₁ cells₁ values₁ →
-    Put lines₀ 0 (valueLines (take (g .values) values₁)) lines at →
-    Put lines at (lastLines (g .outcome) (g .rec)) lines₁ (t .count) →
-    (t .more ≡ isFull (g .outcome)) × (t .rec ≡ g .rec) × (t .cycles ≡ 0) →
-    length values₀ ≡ sliceValues →
-    length values₁ ≡ length values₀ →
-    ReportIs image input r cycles registers₀ cells₀ values₀ lines₀ t registers₁ cells₁ values₁ lines₁
-reported image input r cycles registers₀ cells₀ values₀ lines₀ {g} {values₁ = values₁} {t = t} is first last more room size =
-    let call : Call = record { cycles = cycles; slice = values₀ } in
-    let x = granted image input r registers₀ cells₀ call in
-    let same : valueLines (take (g .values) values₁) ++ lastLines (g .outcome) (g .rec) ≡ replyLines x = rw (is .reply, is .slice) in
-    let full : t .more ≡ isFull (x .reply .outcome) = rw (is .reply) at (more .0) in
-    let rec : t .rec ≡ x .reply .rec = rw (is .reply) at (more .1) in
+pub reported : (e : Environment) (h : Held) (c : Call) (lines₀ : List ℕ) {x : Granted} {lines lines₁ : List ℕ} {at : ℕ} {t : Report} →
+    GrantIs e h c x →
+    Put lines₀ 0 (valueLines (take (x .reply .values) (x .slice))) lines at →
+    Put lines at (lastLines (x .reply .outcome) (x .reply .rec)) lines₁ (t .count) →
+    (t .more ≡ isFull (x .reply .outcome)) × (t .rec ≡ x .reply .rec) × (t .cycles ≡ 0) →
+    length (c .slice) ≡ sliceValues →
+    length (x .slice) ≡ length (c .slice) →
+    ReportIs e h c lines₀ t (x .memory) (x .slice) lines₁
+reported e h c lines₀ {x} {t = t} is first last more room size =
+    let y = granted e h c in
+    let same : valueLines (take (x .reply .values) (x .slice)) ++ lastLines (x .reply .outcome) (x .reply .rec) ≡ replyLines y = rw (is .given) in
+    let full : t .more ≡ isFull (y .reply .outcome) = rw (is .given) at (more .0) in
+    let rec : t .rec ≡ y .reply .rec = rw (is .given) at (more .1) in
     record {
       shows = shown _ same (put-then first last);
       more = full;
       rec = rec;
       cycles = more .2;
-      registers = is .registers;
-      cells = is .cells;
-      values = is .slice;
+      memory = ap (λ (g : Granted). g .memory) (is .given);
+      values = ap (λ (g : Granted). g .slice) (is .given);
       size = size;
-      progress = λ m. rw rec (full-progress image input r registers₀ cells₀ call (omega (arith, room)) (sym full ∙ m));
+      progress = λ m. rw rec (full-progress e h c (omega (arith, room)) (sym full ∙ m));
     }

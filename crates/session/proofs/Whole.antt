@@ -5,19 +5,19 @@ use mathlib.Core.List.{List, [], _∷_, _++_, append-nil}
 use mathlib.Core.Path.{_≡_, refl, sym, ap, _∙_}
 use native.Mathlib.Decide.{decLt}
 use native.Mathlib.Omega.{arith}
-use lib.IntN.{ℤ}
 use lib.ListN.{length, take, replicate, take-append-drop, drop-of-length-le}
 use lib.Seq.{length-take-le}
 use borrow.Author.Tests.{le-leb, lt-leb, ne-eqb}
 use Rattle.model.proofs.Fits.{all-fit, fit-right, numbered-append, parameters-numbered, grant-accepted}
 use Rattle.model.proofs.Refusals.{load-refused-first, grant-refused}
-use Rattle.model.specs.Calls.{accountOf, Started, started, Granted, granted, recordFits, grantChecks, grantRefusal}
+use Rattle.machine.proofs.Demand.{input-unread}
+use Rattle.model.specs.Calls.{Held, environmentFor, accountOf, startChecks, started, heldAfterStart, Granted, granted, recordFits, grantChecks, grantRefusal}
 use Rattle.model.specs.Grants.{Call}
 use Rattle.model.specs.Load.{lengthCheck, loadChecks, loadReply}
 use Rattle.model.specs.Parameters.{Check, _unless_, refusalOf, parameterChecks, maxText, maxInput, maxGrant}
 use Rattle.model.specs.Program.{isFull, replyLines, sliceCall, grantLines, startLines, printed}
 use Rattle.model.specs.Settings.{settings}
-use Rattle.model.specs.Step.{environmentOf}
+use Rattle.model.specs.Step.{Environment, Memory, environmentOf}
 use Rattle.model.specs.declared.LoadReply.{LoadReply}
 use Rattle.model.specs.declared.LoadReply.the-variants as load
 use Rattle.model.specs.declared.Parameters.{Parameters}
@@ -50,57 +50,63 @@ text-long par a b input long-a long-b =
     printed-refused par a input (suc k) 0 x ∙ sym (printed-refused par b input (suc k) 0 y)
 
 -- AN INPUT THAT IS TOO LONG: the first grant is refused.
-module _ (image : List ℕ) (r : Record) (fresh : r .place ≡ 0) (registers cells : List ℤ) (c : Call) (x y : List ℕ) (long-x : maxInput < length x)
+module _ (p : Parameters) (image : List ℕ) (h : Held) (fresh : h .rec .place ≡ 0) (c : Call) (x y : List ℕ) (long-x : maxInput < length x)
     (long-y : maxInput < length y) where
+  abbrev lent : List ℕ → Environment
+  lent i = environmentOf p image i
+
   abbrev refusal : List ℕ → ℕ
-  refusal i = grantRefusal (environmentOf (r .parameters) image i) (accountOf r registers cells) c
+  refusal i = grantRefusal (environmentFor (lent i) h) (accountOf h) c
 
   refusal-long : refusal x ≡ refusal y
-  unfolding grantRefusal grantChecks recordFits
+  unfolding grantRefusal grantChecks startChecks recordFits
   refusal-long =
       rw (fresh, lt-leb (length x) maxInput long-x, lt-leb (length y) maxInput long-y, le-leb 0 (length x) (omega arith), le-leb 0 (length y) (omega arith))
 
-  grant-long : (granted image x r registers cells c ≡ granted image y r registers cells c) × (isFull (granted image y r registers cells c .reply .outcome) ≡ false)
+  grant-long : (granted (lent x) h c ≡ granted (lent y) h c) × (isFull (granted (lent y) h c .reply .outcome) ≡ false)
   grant-long = go (refusal y) refl
     where
-      go : (k : ℕ) → refusal y ≡ k →
-          (granted image x r registers cells c ≡ granted image y r registers cells c) × (isFull (granted image y r registers cells c .reply .outcome) ≡ false)
-      go zero h =
-          let fits = grant-accepted (environmentOf (r .parameters) image y) (accountOf r registers cells) c h in
-          absurd (omega (arith, long-y, fits .input-length))
-      go (suc k) h =
-          let refused = grant-refused image y r registers cells c k h in
-          (grant-refused image x r registers cells c k (refusal-long ∙ h) ∙ sym refused, ap (λ (g : Granted). isFull (g .reply .outcome)) refused)
+      go : (k : ℕ) → refusal y ≡ k → (granted (lent x) h c ≡ granted (lent y) h c) × (isFull (granted (lent y) h c .reply .outcome) ≡ false)
+      go zero z = absurd (omega (arith, long-y, grant-accepted (environmentFor (lent y) h) (accountOf h) c z .input-length))
+      go (suc k) z =
+          let refused = grant-refused (lent y) h c k z in
+          (grant-refused (lent x) h c k (refusal-long ∙ z) ∙ sym refused, ap (λ (g : Granted). isFull (g .reply .outcome)) refused)
 
-lines-long : (image : List ℕ) (r : Record) → r .place ≡ 0 → (registers cells : List ℤ) (n cycles : ℕ) (x y : List ℕ) → maxInput < length x → maxInput < length y →
-    grantLines image x (suc n) cycles r registers cells ≡ grantLines image y (suc n) cycles r registers cells
-lines-long image r fresh registers cells n cycles x y long-x long-y =
-    let (same, full) = grant-long image r fresh registers cells (sliceCall cycles) x y long-x long-y in
-    lines-last image x n cycles r registers cells (ap (λ (g : Granted). isFull (g .reply .outcome)) same ∙ full)
+lines-long : (p : Parameters) (image : List ℕ) (h : Held) → h .rec .place ≡ 0 → (n cycles : ℕ) (x y : List ℕ) → maxInput < length x →
+    maxInput < length y → grantLines (environmentOf p image x) (suc n) cycles h ≡ grantLines (environmentOf p image y) (suc n) cycles h
+lines-long p image h fresh n cycles x y long-x long-y =
+    let (same, full) = grant-long p image h fresh (sliceCall cycles) x y long-x long-y in
+    lines-last (environmentOf p image x) n cycles h (ap (λ (g : Granted). isFull (g .reply .outcome)) same ∙ full)
     ∙ ap (λ (g : Granted). replyLines g ++ []) same
-    ∙ sym (lines-last image y n cycles r registers cells full)
+    ∙ sym (lines-last (environmentOf p image y) n cycles h full)
 
-start-long : (p : Parameters) (image : List ℕ) (registers cells : List ℤ) (x y : List ℕ) → maxInput < length x → maxInput < length y →
-    startLines image x (started p image registers cells) ≡ startLines image y (started p image registers cells)
-start-long p image registers cells x y long-x long-y = go (s .reply .refusal) refl
+start-long : (p : Parameters) (image : List ℕ) (m : Memory) (x y : List ℕ) → maxInput < length x → maxInput < length y →
+    startLines (environmentOf p image x) (started (environmentOf p image x) m) ≡ startLines (environmentOf p image y) (started (environmentOf p image y) m)
+start-long p image m x y long-x long-y = go (started (lent x) m .reply .refusal) refl
   where
-    s : Started
-    s = started p image registers cells
+    lent : List ℕ → Environment
+    lent i = environmentOf p image i
 
-    go : (k : ℕ) → s .reply .refusal ≡ k → startLines image x s ≡ startLines image y s
+    same : started (lent x) m ≡ started (lent y) m
+    same = sym (input-unread (lent x) m) ∙ input-unread (lent y) m
+
+    go : (k : ℕ) → started (lent x) m .reply .refusal ≡ k → startLines (lent x) (started (lent x) m) ≡ startLines (lent y) (started (lent y) m)
     go zero h =
-        let fresh = ap (λ (r : Record). r .place) (start-fresh p image registers cells h) in
-        start-goes image x s h
-        ∙ lines-long image (s .reply .rec) fresh (s .registers) (s .cells) maxGrant maxGrant x y long-x long-y
-        ∙ sym (start-goes image y s h)
-    go (suc k) h = let stops = ne-eqb (s .reply .refusal) 0 (λ e. omega (arith, h, e)) in start-stops image x s stops ∙ sym (start-stops image y s stops)
+        let fresh = ap (λ (r : Record). r .place) (start-fresh (lent x) m h) in
+        start-goes (lent x) (started (lent x) m) h
+        ∙ lines-long p image (heldAfterStart (started (lent x) m)) fresh maxGrant maxGrant x y long-x long-y
+        ∙ sym (start-goes (lent y) (started (lent x) m) h)
+        ∙ ap (startLines (lent y)) same
+    go (suc k) h =
+        let stops = ne-eqb (started (lent x) m .reply .refusal) 0 (λ e. omega (arith, h, e)) in
+        start-stops (lent x) (started (lent x) m) stops ∙ sym (start-stops (lent y) (started (lent x) m) stops) ∙ ap (startLines (lent y)) same
 
 input-long : (par text x y : List ℕ) → maxInput < length x → maxInput < length y → printed par text x ≡ printed par text y
 input-long par text x y long-x long-y = go (loadReply (settings par) text (replicate (4 * settings par .t) 0)) refl
   where
     go : (l : LoadReply) → loadReply (settings par) text (replicate (4 * settings par .t) 0) ≡ l → printed par text x ≡ printed par text y
     go (load.Refused k i) e = printed-refused par text x k i e ∙ sym (printed-refused par text y k i e)
-    go (load.Accepted n) e = printed-loaded par text x n e ∙ start-long (settings par) _ _ _ x y long-x long-y ∙ sym (printed-loaded par text y n e)
+    go (load.Accepted n) e = printed-loaded par text x n e ∙ start-long (settings par) _ _ x y long-x long-y ∙ sym (printed-loaded par text y n e)
 
 -- THE FILES. All of one that is within the limit, and one byte more than the limit of one that is not.
 take-all : (most : ℕ) (s : List ℕ) → length s ≤ most → take (suc most) s ≡ s

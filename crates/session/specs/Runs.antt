@@ -5,32 +5,38 @@ use mathlib.Core.List.{List, _++_}
 use mathlib.Core.Path.{_≡_}
 use lib.IntN.{ℤ}
 use lib.ListN.{take}
+use Rattle.model.specs.Calls.{Held, asCall}
+use Rattle.model.specs.Grants.{Call}
+use Rattle.model.specs.Step.{Environment, environmentOf, Memory}
 use Rattle.model.specs.declared.Parameters.{Parameters}
-use Rattle.model.specs.declared.Record.{Record}
 use Rattle.session.specs.Sessions.{OpenIs, ReportIs}
 use Rattle.session.specs.declared.Report.{Report}
 
+-- The record and memory after a call.
+abbrev heldBy : Report → Memory → Held
+heldBy r m = record { rec = r .rec; memory = m }
+
 -- Calls of `run_grant`, each with the record, the cycles and the buffers that the call before it left, until one says that no more follows.
-pub data Grants (image input : List ℕ) : Record → ℕ → (registers cells values : List ℤ) (lines out : List ℕ) → Type 0 where
-  last : {rec : Record} {cycles : ℕ} {registers cells values registers₁ cells₁ values₁ : List ℤ} {lines lines₁ : List ℕ} {r : Report} →
-      ReportIs image input rec cycles registers cells values lines r registers₁ cells₁ values₁ lines₁ →
+pub data Grants (e : Environment) : Held → Call → (lines out : List ℕ) → Type 0 where
+  last : {h : Held} {c : Call} {memory₁ : Memory} {values₁ : List ℤ} {lines lines₁ : List ℕ} {r : Report} →
+      ReportIs e h c lines r memory₁ values₁ lines₁ →
       r .more ≡ false →
-      Grants image input rec cycles registers cells values lines (take (r .count) lines₁)
-  next : {rec : Record} {cycles : ℕ} {registers cells values registers₁ cells₁ values₁ : List ℤ} {lines lines₁ out : List ℕ} {r : Report} →
-      ReportIs image input rec cycles registers cells values lines r registers₁ cells₁ values₁ lines₁ →
+      Grants e h c lines (take (r .count) lines₁)
+  next : {h : Held} {c : Call} {memory₁ : Memory} {values₁ : List ℤ} {lines lines₁ out : List ℕ} {r : Report} →
+      ReportIs e h c lines r memory₁ values₁ lines₁ →
       r .more ≡ true →
-      Grants image input (r .rec) (r .cycles) registers₁ cells₁ values₁ lines₁ out →
-      Grants image input rec cycles registers cells values lines (take (r .count) lines₁ ++ out)
+      Grants e (heldBy r memory₁) (asCall (r .cycles) values₁) lines₁ out →
+      Grants e h c lines (take (r .count) lines₁ ++ out)
 
 -- A call of `open`, then those of `run_grant` if it says that more follows.
-module _ (p : Parameters) (text input image : List ℕ) (registers cells values : List ℤ) (lines : List ℕ) where
+module _ (p : Parameters) (text input image : List ℕ) (memory : Memory) (values : List ℤ) (lines : List ℕ) where
   pub data Run : List ℕ → Type 0 where
-    refused : {r : Report} {image₁ lines₁ : List ℕ} {registers₁ cells₁ : List ℤ} →
-        OpenIs p text image registers cells lines r image₁ registers₁ cells₁ lines₁ →
+    refused : {r : Report} {image₁ lines₁ : List ℕ} {memory₁ : Memory} →
+        OpenIs p text image memory lines r image₁ memory₁ lines₁ →
         r .more ≡ false →
         Run (take (r .count) lines₁)
-    granted : {r : Report} {image₁ lines₁ out : List ℕ} {registers₁ cells₁ : List ℤ} →
-        OpenIs p text image registers cells lines r image₁ registers₁ cells₁ lines₁ →
+    granted : {r : Report} {image₁ lines₁ out : List ℕ} {memory₁ : Memory} →
+        OpenIs p text image memory lines r image₁ memory₁ lines₁ →
         r .more ≡ true →
-        Grants image₁ input (r .rec) (r .cycles) registers₁ cells₁ values lines₁ out →
+        Grants (environmentOf p image₁ input) (heldBy r memory₁) (asCall (r .cycles) values) lines₁ out →
         Run (take (r .count) lines₁ ++ out)

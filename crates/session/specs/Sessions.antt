@@ -6,7 +6,9 @@ use mathlib.Core.Path.{_≡_}
 use lib.Dec.{eqb, leb}
 use lib.IntN.{ℤ}
 use lib.ListN.{length, drop}
-use Rattle.model.specs.Calls.{Started, started, Granted, granted}
+use Rattle.model.specs.Calls.{Held, Started, started, Granted, granted}
+use Rattle.model.specs.Grants.{Call}
+use Rattle.model.specs.Step.{Environment, environmentOf, Memory}
 use Rattle.model.specs.Lines.{refusalLine}
 use Rattle.model.specs.Load.{loadReply, imageAfter}
 use Rattle.model.specs.Program.{isFull, replyLines, sliceValues}
@@ -27,18 +29,17 @@ pub record Shows (text lines₀ : List ℕ) (end : ℕ) (lines₁ : List ℕ) : 
   pub count : end ≡ length text
   pub lines : lines₁ ≡ text ++ drop end lines₀
 
-module _ (p : Parameters) (image : List ℕ) (registers₀ cells₀ : List ℤ) (lines₀ : List ℕ) where
+module _ (e : Environment) (memory₀ : Memory) (lines₀ : List ℕ) where
   abbrev begun : Started
-  begun = started p image registers₀ cells₀
+  begun = started e memory₀
 
-  pub record BeginIs (r : Report) (registers₁ cells₁ : List ℤ) (lines₁ : List ℕ) : Type 0 where
+  pub record BeginIs (r : Report) (memory₁ : Memory) (lines₁ : List ℕ) : Type 0 where
     pub shows : Shows (startLine (begun .reply .refusal)) lines₀ (r .count) lines₁
     pub more : r .more ≡ eqb (begun .reply .refusal) 0
     pub rec : r .rec ≡ begun .reply .rec
     -- "grants 10^9 once"
     pub cycles : r .more ≡ true → r .cycles ≡ maxGrant
-    pub registers : registers₁ ≡ begun .registers
-    pub cells : cells₁ ≡ begun .cells
+    pub memory : memory₁ ≡ begun .memory
 
 -- LOAD, THEN START.
 -- The length of a slice of n, where n is within its limit; over it the checks of the parameters refuse, whatever the slice.
@@ -46,31 +47,30 @@ abbrev pub sizeOf : (n most : ℕ) → ℕ
 sizeOf n most = cond (leb n most) n 0
 
 -- The slices have the parameters' lengths.
-pub record Sizes (p : Parameters) (image : List ℕ) (registers cells : List ℤ) : Type 0 where
+pub record Sizes (p : Parameters) (image : List ℕ) (memory : Memory) : Type 0 where
   pub words : length image ≡ 4 * sizeOf (p .t) maxInstructions
-  pub register-count : length registers ≡ sizeOf (p .n) maxRegisters
-  pub cell-count : length cells ≡ sizeOf (p .s) maxCells
+  pub register-count : length (memory .registers) ≡ sizeOf (p .n) maxRegisters
+  pub cell-count : length (memory .cells) ≡ sizeOf (p .s) maxCells
 
 -- The bytes of a grant's lines: at most 12 for a value, 80 for the last line.
 abbrev pub linesBytes : ℕ
 linesBytes = 12 * sliceValues + 80
 
 -- A refused load is the last call.
-pub record Unloaded (k i : ℕ) (registers₀ cells₀ : List ℤ) (lines₀ : List ℕ) (r : Report) (registers₁ cells₁ : List ℤ) (lines₁ : List ℕ) : Type 0 where
+pub record Unloaded (k i : ℕ) (memory₀ : Memory) (lines₀ : List ℕ) (r : Report) (memory₁ : Memory) (lines₁ : List ℕ) : Type 0 where
   pub shows : Shows (refusalLine k i) lines₀ (r .count) lines₁
   pub more : r .more ≡ false
-  pub registers : registers₁ ≡ registers₀
-  pub cells : cells₁ ≡ cells₀
+  pub memory : memory₁ ≡ memory₀
 
-module _ (p : Parameters) (text image₀ : List ℕ) (registers₀ cells₀ : List ℤ) (lines₀ : List ℕ) where
+module _ (p : Parameters) (text image₀ : List ℕ) (memory₀ : Memory) (lines₀ : List ℕ) where
   -- By what load replies.
-  abbrev pub OpenBy : LoadReply → Report → (image₁ : List ℕ) (registers₁ cells₁ : List ℤ) (lines₁ : List ℕ) → Type 0
-  OpenBy (load.Refused k i) r image₁ registers₁ cells₁ lines₁ = Unloaded k i registers₀ cells₀ lines₀ r registers₁ cells₁ lines₁
-  OpenBy (load.Accepted n) r image₁ registers₁ cells₁ lines₁ = BeginIs p image₁ registers₀ cells₀ lines₀ r registers₁ cells₁ lines₁
+  abbrev pub OpenBy : LoadReply → Report → (image₁ : List ℕ) (memory₁ : Memory) (lines₁ : List ℕ) → Type 0
+  OpenBy (load.Refused k i) r image₁ memory₁ lines₁ = Unloaded k i memory₀ lines₀ r memory₁ lines₁
+  OpenBy (load.Accepted n) r image₁ memory₁ lines₁ = BeginIs (environmentOf p image₁ []) memory₀ lines₀ r memory₁ lines₁
 
-  pub record OpenIs (r : Report) (image₁ : List ℕ) (registers₁ cells₁ : List ℤ) (lines₁ : List ℕ) : Type 0 where
+  pub record OpenIs (r : Report) (image₁ : List ℕ) (memory₁ : Memory) (lines₁ : List ℕ) : Type 0 where
     pub image : image₁ ≡ imageAfter p text image₀ (loadReply p text image₀)
-    pub by : OpenBy (loadReply p text image₀) r image₁ registers₁ cells₁ lines₁
+    pub by : OpenBy (loadReply p text image₀) r image₁ memory₁ lines₁
 
 -- A GRANT AND ITS LINES.
 -- What a full output leaves, from the record `before` on: at least one cycle spent more, and the grants' cycles together are not used up.
@@ -80,18 +80,17 @@ pub record Progress (before : Record) (cycles : ℕ) (after : Record) : Type 0 w
   pub within : after .spent ≤ after .granted
   pub granted : after .granted ≡ before .granted + cycles
 
-module _ (image input : List ℕ) (rec₀ : Record) (cycles₀ : ℕ) (registers₀ cells₀ values₀ : List ℤ) (lines₀ : List ℕ) where
+module _ (e : Environment) (h : Held) (c : Call) (lines₀ : List ℕ) where
   abbrev grantResult : Granted
-  grantResult = granted image input rec₀ registers₀ cells₀ (record { cycles = cycles₀; slice = values₀ })
+  grantResult = granted e h c
 
-  pub record ReportIs (r : Report) (registers₁ cells₁ values₁ : List ℤ) (lines₁ : List ℕ) : Type 0 where
+  pub record ReportIs (r : Report) (memory₁ : Memory) (values₁ : List ℤ) (lines₁ : List ℕ) : Type 0 where
     pub shows : Shows (replyLines grantResult) lines₀ (r .count) lines₁
     pub more : r .more ≡ isFull (grantResult .reply .outcome)
     pub rec : r .rec ≡ grantResult .reply .rec
     -- "then 0 after each full output"
     pub cycles : r .cycles ≡ 0
-    pub registers : registers₁ ≡ grantResult .registers
-    pub cells : cells₁ ≡ grantResult .cells
+    pub memory : memory₁ ≡ grantResult .memory
     pub values : values₁ ≡ grantResult .slice
-    pub size : length values₁ ≡ length values₀
-    pub progress : r .more ≡ true → Progress rec₀ cycles₀ (r .rec)
+    pub size : length values₁ ≡ length (c .slice)
+    pub progress : r .more ≡ true → Progress (h .rec) (c .cycles) (r .rec)

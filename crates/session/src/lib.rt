@@ -2,9 +2,12 @@
 pub mod printing;
 
 ghost use mathlib.Core.Bool.{true, false};
+ghost use mathlib.Core.List.{[]};
 ghost use mathlib.Core.Path.{_≡_};
 ghost use Prim.Native.Nat.{_+_, _≤_};
 ghost use lib.ListN.{length};
+ghost use Rattle.model.specs.Calls.{asHeld, asCall};
+ghost use Rattle.model.specs.Step.{asMemory, environmentOf};
 ghost use Rattle.model.specs.Program.{isFull, lastLines, sliceValues};
 ghost use Rattle.session.specs.Puts.{Put};
 ghost use Rattle.session.specs.Sessions.{Sizes, linesBytes, BeginIs, OpenIs, ReportIs};
@@ -62,7 +65,8 @@ fn begin(
     lines: &mut [u8],
 ) -> Report
     requires { ⌜ 80 ≤ length (now lines) ⌝ }
-    ensures { λ r. ⌜ BeginIs p (now (image .entry)) (now (registers .entry)) (now (cells .entry)) (now (lines .entry)) r (now (registers .exit)) (now (cells .exit)) (now (lines .exit)) ⌝ }
+    ensures { λ r. ⌜ BeginIs (environmentOf p (now (image .entry)) []) (asMemory (now (registers .entry)) (now (cells .entry))) (now (lines .entry))
+        r (asMemory (now (registers .exit)) (now (cells .exit))) (now (lines .exit)) ⌝ }
     ensures within { λ r. ⌜ r .count ≤ length (now (lines .exit)) ⌝ }
 {
     let started = start(p, image, registers, cells);
@@ -82,9 +86,10 @@ pub fn open(
     cells: &mut [i32],
     lines: &mut [u8],
 ) -> Report
-    requires { ⌜ Sizes p (now image) (now registers) (now cells) ⌝ }
+    requires { ⌜ Sizes p (now image) (asMemory (now registers) (now cells)) ⌝ }
     requires { ⌜ 80 ≤ length (now lines) ⌝ }
-    ensures { λ r. ⌜ OpenIs p (now (text .entry)) (now (image .entry)) (now (registers .entry)) (now (cells .entry)) (now (lines .entry)) r (now (image .exit)) (now (registers .exit)) (now (cells .exit)) (now (lines .exit)) ⌝ }
+    ensures { λ r. ⌜ OpenIs p (now (text .entry)) (now (image .entry)) (asMemory (now (registers .entry)) (now (cells .entry))) (now (lines .entry))
+        r (now (image .exit)) (asMemory (now (registers .exit)) (now (cells .exit))) (now (lines .exit)) ⌝ }
     ensures within { λ r. ⌜ r .count ≤ length (now (lines .exit)) ⌝ }
 {
     let loaded = load(p, text, image);
@@ -130,7 +135,9 @@ pub fn run_grant(
     lines: &mut [u8],
 ) -> Report
     requires { ⌜ (length (now values) ≡ sliceValues) × (linesBytes ≤ length (now lines)) ⌝ }
-    ensures { λ r. ⌜ ReportIs (now (image .entry)) (now (input .entry)) rec cycles (now (registers .entry)) (now (cells .entry)) (now (values .entry)) (now (lines .entry)) r (now (registers .exit)) (now (cells .exit)) (now (values .exit)) (now (lines .exit)) ⌝ }
+    ensures { λ r. ⌜ ReportIs (environmentOf (rec .parameters) (now (image .entry)) (now (input .entry)))
+        (asHeld rec (now (registers .entry)) (now (cells .entry))) (asCall cycles (now (values .entry))) (now (lines .entry))
+        r (asMemory (now (registers .exit)) (now (cells .exit))) (now (values .exit)) (now (lines .exit)) ⌝ }
     ensures within { λ r. ⌜ r .count ≤ length (now (lines .exit)) ⌝ }
 {
     let reply = grant(rec, cycles, image, input, registers, cells, values);

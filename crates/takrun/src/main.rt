@@ -4,6 +4,7 @@ ghost use Prim.Native.Nat.{_*_, _≤_, _<_};
 ghost use lib.ListN.{length};
 ghost use Rattle.model.specs.Program.{sliceValues};
 ghost use Rattle.model.specs.Parameters.{maxRegisters, maxCells, maxInstructions};
+ghost use Rattle.model.specs.Step.{asMemory};
 ghost use Rattle.session.specs.Sessions.{Sizes, sizeOf, linesBytes};
 use libc::EINTR;
 use libc::STDOUT_FILENO;
@@ -142,7 +143,7 @@ fn load_text(
     cells: &mut [i32],
     lines: &mut [u8],
 ) -> Report
-    requires { ⌜ Sizes p (now image) (now registers) (now cells) ⌝ }
+    requires { ⌜ Sizes p (now image) (asMemory (now registers) (now cells)) ⌝ }
     requires { ⌜ 80 ≤ length (now lines) ⌝ }
     ensures { λ r. ⌜ r .count ≤ length (now (lines .exit)) ⌝ }
 {
@@ -183,7 +184,7 @@ fn run(
     values: &mut [i32],
     lines: &mut [u8],
 )
-    requires { ⌜ Sizes p (now image) (now registers) (now cells) ⌝ }
+    requires { ⌜ Sizes p (now image) (asMemory (now registers) (now cells)) ⌝ }
     requires { ⌜ (length (now values) ≡ sliceValues) × (linesBytes ≤ length (now lines)) ⌝ }
 {
     let report = load_text(p, bytes, image, registers, cells, lines);

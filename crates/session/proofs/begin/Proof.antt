@@ -1,7 +1,9 @@
 -- `begin` meets its contract. Assumes nothing.
+use mathlib.Core.List.{[]}
 use native.Mathlib.Omega.{arith}
 use borrow.Author.Needs.{needs}
 use denote.Ref.{now}
+use Rattle.model.specs.Step.{asMemory, environmentOf}
 use Rattle.session.proofs.Pieces.{put-length}
 use Rattle.session.proofs.Lines.{not-begun, has-begun}
 use Rattle.session.proofs.begin.Statement.{statement}
@@ -31,7 +33,7 @@ returns c =
     let a = begun .before .before .before .before .before .args in
     let put = c .before .before .before .put-refusal .ensures in
     rw (c .stop-after .ensures) (
-      not-begun (a .p) (now (a .image)) (now (a .registers)) (now (a .cells)) (now (a .lines)) (begun .start .ensures)
+      not-begun (environmentOf (a .p) (now (a .image)) []) (asMemory (now (a .registers)) (now (a .cells))) (now (a .lines)) (begun .start .ensures)
           (c .before .before .before .before .before .if1 .taken) put,
       omega (arith, put .room, put .end, put-length put),
     )
@@ -50,7 +52,7 @@ returns-2 c =
     let begun = c .before .before .before .before .before .before in
     let a = begun .before .before .before .before .before .args in
     rw (c .grant-after .ensures)
-    (has-begun (a .p) (now (a .image)) (now (a .registers)) (now (a .cells)) (now (a .lines)) (begun .start .ensures) (c .before .if1 .left), omega arith)
+    (has-begun (environmentOf (a .p) (now (a .image)) []) (asMemory (now (a .registers)) (now (a .cells))) (now (a .lines)) (begun .start .ensures) (c .before .if1 .left), omega arith)
 
 pub begin-spec : {M : Type 1} → statement M
 begin-spec =

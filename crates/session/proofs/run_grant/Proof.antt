@@ -4,6 +4,8 @@ use native.Mathlib.Omega.{arith}
 use lib.Seq.{length-take-le}
 use borrow.Author.Needs.{needs}
 use denote.Ref.{now}
+use Rattle.model.specs.Calls.{asHeld, asCall}
+use Rattle.model.specs.Step.{environmentOf}
 use Rattle.session.proofs.Pieces.{put-length, put-then}
 use Rattle.session.proofs.Lines.{written-fits, reported}
 use Rattle.session.proofs.run_grant.Statement.{statement}
@@ -55,7 +57,8 @@ returns c =
     let start = done .before .before .before .before .before .before .before in
     let a = start .args in
     let all = put-then (put .put-values .ensures .0) (last .0) in (
-      reported (now (a .image)) (now (a .input)) (a .rec) (a .cycles) (now (a .registers)) (now (a .cells)) (now (a .values)) (now (a .lines))
+      reported (environmentOf (a .rec .parameters) (now (a .image)) (now (a .input))) (asHeld (a .rec) (now (a .registers)) (now (a .cells)))
+          (asCall (a .cycles) (now (a .values))) (now (a .lines))
           (done .grant .ensures) (put .put-values .ensures .0) (last .0) (last .1) (start .pre .0) (put .before .before .before .values .given),
       omega (arith, all .room, all .end, put-length all),
     )
