@@ -12,9 +12,7 @@ ERRNO = {"os::c::rattle_errno", "os::c::rattle_set_errno"}
 # `os::open_read` sets errno for a name that C cannot be handed, so that opening a file reaches both functions of errno.
 ASSUMED = {
     "takrun": READ_WRITE | {"libc::close", "os::c::rattle_open_to_read"} | ERRNO,
-    "vectors": READ_WRITE,
-    "loads": READ_WRITE,
-    "runs": READ_WRITE,
+    "replay": READ_WRITE,
 }
 STATIC = "tak"
 
