@@ -111,7 +111,7 @@ def main():
     reference, definitions, cases = sys.argv[1:]
     found = list(reference_rows(read(reference)))
     wanted = [(i, n, f, p, MULTIPLIERS[m]) for i, (n, f, p, m) in enumerate(Definitions(read(definitions)).rows(), 1)]
-    folders = {name for name in os.listdir(cases) if re.fullmatch(r"code-\w+-\d", name)}
+    named = {name for name in os.listdir(cases) if re.fullmatch(r"code-\w+-\d", name)}
     passed = failed = 0
     for i in range(max(len(found), len(wanted), 1)):
         have = found[i] if i < len(found) else None
@@ -123,7 +123,7 @@ def main():
             print(f"row {i + 1}\n  reference:   {have[:5] if have else 'none'}\n  definitions: {want or 'none'}")
         name = (have or want or (0, "none"))[1]
         told = {f"code-{name}-{code}" for code in (have[5] if have else []) if code}
-        there = {folder for folder in folders if folder.split("-")[1] == name}
+        there = {case for case in named if case.split("-")[1] == name}
         if have and told == there and 0 in have[5]:
             passed += 1
         else:

@@ -1,4 +1,0 @@
-JMP 3
-OUT IAR
-JMP 4
-JMP 1 # jumps so that the next instruction is IM1

@@ -1,3 +1,0 @@
-SET R0 0
-DEC R0 -128
-OUT R0

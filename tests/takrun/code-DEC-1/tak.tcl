@@ -1,3 +1,0 @@
-SET R0 -128
-DEC R0 1
-OUT R0

@@ -1,2 +1,0 @@
-IN DM0
-OUT DM0

@@ -1,2 +1,0 @@
-IN DM1
-OUT R0

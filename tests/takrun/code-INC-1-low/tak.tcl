@@ -1,3 +1,0 @@
-SET R0 -1
-INC R0 -128
-OUT R0

@@ -1,3 +1,0 @@
-SET R0 127
-INC R0 1
-OUT R0

@@ -1,2 +1,0 @@
-SET R0 8
-JMP R0

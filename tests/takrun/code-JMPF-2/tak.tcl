@@ -1,2 +1,0 @@
-SET R0 -2
-JMPF 0 R0

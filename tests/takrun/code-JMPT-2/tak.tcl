@@ -1,2 +1,0 @@
-SET R0 1
-JMPT 0 R0

@@ -1,2 +1,0 @@
-SET R0 1
-NOT R0 R1

@@ -1,3 +1,0 @@
-SET R0 1
-SETT R1
-OR R0 R1 R2

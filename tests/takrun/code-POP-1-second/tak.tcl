@@ -1,3 +1,0 @@
-PUSH IAR
-POP R0
-POP R0

@@ -1,1 +1,0 @@
-PUSH SHR

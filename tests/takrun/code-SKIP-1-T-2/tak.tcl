@@ -1,2 +1,0 @@
-SKIP
-NOP

@@ -1,7 +1,0 @@
-NOP
-NOP
-NOP
-NOP
-NOP
-NOP
-SKIP

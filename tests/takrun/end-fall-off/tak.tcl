@@ -1,3 +1,0 @@
-NOP
-NOP
-OUT IAR

@@ -1,4 +1,0 @@
-JMP 4
-OUT R0
-OUT R0
-OUT IAR

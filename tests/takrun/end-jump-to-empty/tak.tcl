@@ -1,2 +1,0 @@
-JMP 7
-OUT IAR

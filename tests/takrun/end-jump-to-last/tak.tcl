@@ -1,4 +1,0 @@
-JMP 3
-OUT R0
-OUT R0
-OUT IAR

@@ -1,1 +1,0 @@
-ADD R0 R1 SHR

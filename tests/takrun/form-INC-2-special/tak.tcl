@@ -1,1 +1,0 @@
-INC R0 SHR

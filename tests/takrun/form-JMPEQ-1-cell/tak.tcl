@@ -1,1 +1,0 @@
-JMPEQ DM0 R0 R1

@@ -1,1 +1,0 @@
-JMPEQ 1 DM0 R1

@@ -1,1 +1,0 @@
-JMPEQ 1 R0 DM0

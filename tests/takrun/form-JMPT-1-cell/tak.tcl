@@ -1,1 +1,0 @@
-JMPT DM0 R0

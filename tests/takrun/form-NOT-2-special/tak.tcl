@@ -1,1 +1,0 @@
-NOT R0 SHR

@@ -1,1 +1,0 @@
-SET R0 SHR

@@ -1,1 +1,0 @@
-SETF IAR

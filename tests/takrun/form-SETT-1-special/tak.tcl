@@ -1,1 +1,0 @@
-SETT SHR

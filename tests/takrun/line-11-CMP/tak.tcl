@@ -1,3 +1,0 @@
-NOP
-
-CMP R0 R1 R0

@@ -1,3 +1,0 @@
-NOP
-
-JMPNE 0 R0 R1

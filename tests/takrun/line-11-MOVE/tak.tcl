@@ -1,3 +1,0 @@
-NOP
-
-MOVE R0 R1

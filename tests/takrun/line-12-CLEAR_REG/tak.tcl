@@ -1,3 +1,0 @@
-NOP
-
-CLEAR_REG R0

@@ -1,3 +1,0 @@
-NOP
-
-JMPEQ 1 R0

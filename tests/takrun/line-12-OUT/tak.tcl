@@ -1,3 +1,0 @@
-NOP
-
-OUT R0 R1

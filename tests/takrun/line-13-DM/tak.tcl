@@ -1,3 +1,0 @@
-NOP
-
-SET DM 1

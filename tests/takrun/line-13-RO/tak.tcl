@@ -1,3 +1,0 @@
-NOP
-
-SET RO 1

@@ -1,3 +1,0 @@
-NOP
-
-SET R0 0x1F

@@ -1,3 +1,0 @@
-NOP
-
-JMP NOP

@@ -1,2 +1,0 @@
-OUT DM3
-OUT DM4

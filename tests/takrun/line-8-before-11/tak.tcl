@@ -1,3 +1,0 @@
-FOO
-NOP
-NOP

@@ -1,4 +1,0 @@
-NOP
-SET R9 1
-FOO
-ADD

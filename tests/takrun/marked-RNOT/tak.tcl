@@ -1,3 +1,0 @@
-SET R0 3
-RNOT R0 R1
-OUT R1

@@ -1,3 +1,0 @@
-SET R0 64
-RSL R0
-OUT R0

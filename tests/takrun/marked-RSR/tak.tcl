@@ -1,3 +1,0 @@
-SET R0 -1
-RSR R0
-OUT R0

@@ -1,5 +1,0 @@
-NOP
-NOP
-NOP
-NOP
-SKIP

@@ -1,6 +1,0 @@
-NOP
-
-  	,
-# comment
-nop
-OUT IAR

@@ -1,3 +1,0 @@
-INC R0 1
-NEG R1 R1
-JMP 0

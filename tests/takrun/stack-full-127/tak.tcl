@@ -1,3 +1,0 @@
-PUSH SHR
-OUT SHR
-JMP 0

@@ -1,1 +1,0 @@
-OUT SHR # oneOUT SHR

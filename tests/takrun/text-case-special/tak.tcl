@@ -1,3 +1,0 @@
-OUT sHr
-out Ircr
-OUT iAR

@@ -1,4 +1,0 @@
-/NOP
-;SET
-#R0
-OUT IAR

@@ -1,6 +1,0 @@
-/ a
-# b
-; c
-// d
-OUT SHR/e
-OUT SHR#f;g
