@@ -1,4 +1,5 @@
 """Cases of calls: how the program `replay` reads them, and what it must print, by the second machine of tests/definitions."""
+import functools
 import os
 import sys
 
@@ -26,7 +27,14 @@ def watched(step):
     return noted
 
 
+def remembered(decode):
+    """Decoding that keeps its answers: a case's cells are decoded in each of its calls."""
+    known = functools.cache(lambda parameters, words: decode(parameters, list(words)))
+    return lambda parameters, words: known(parameters, tuple(words))
+
+
 model.Machine.step = watched(model.Machine.step)
+model.decode = remembered(model.decode)
 
 
 def limit(k):

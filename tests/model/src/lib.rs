@@ -1,5 +1,6 @@
 //! A model of the TAK machine, written from the papers in plain Rust: load, start, grant and the decimal writer over
-//! the same slices and numbers as the calls of `include/tak.h`. It shares no code with the proved library.
+//! the same slices and numbers as the calls of `include/tak.h`. It shares no code with the proved library; a record's
+//! positions and the endings' numbers are those of the Rust package for callers.
 
 pub mod decimal;
 pub mod grant;
@@ -12,6 +13,7 @@ pub use decimal::{Written, decimal};
 pub use grant::{Granted, grant};
 pub use load::{Loaded, load};
 pub use start::start;
+pub use tak::{RECORD, RECORD_SIZE, ending, record};
 
 /// Texts and inputs may have this many bytes.
 pub const MAX_BYTES: usize = 65_536;
@@ -21,35 +23,6 @@ pub const MAX_GRANT: u64 = 1_000_000_000;
 
 /// All grants together may have this many cycles.
 pub const MAX_GRANTED: u64 = 1_000_000_000_000_000;
-
-/// How many numbers a record has over the interface.
-pub const RECORD: usize = 11;
-
-/// The refusal of a record slice of another length.
-pub const RECORD_SIZE: u32 = 100;
-
-/// Positions of a record's numbers.
-pub mod record {
-    pub const K: usize = 0;
-    pub const N: usize = 1;
-    pub const S: usize = 2;
-    pub const B: usize = 3;
-    pub const T: usize = 4;
-    pub const IAR: usize = 5;
-    pub const IRCR: usize = 6;
-    pub const SHR: usize = 7;
-    pub const PLACE: usize = 8;
-    pub const GRANTED: usize = 9;
-    pub const SPENT: usize = 10;
-}
-
-/// How an accepted grant ends.
-pub mod ending {
-    pub const FAILED: u32 = 1;
-    pub const ENDED: u32 = 2;
-    pub const PAUSED: u32 = 3;
-    pub const OUTPUT_FULL: u32 = 4;
-}
 
 /// The constructional parameters as a caller gives them: K bits of a cell, N registers, S data cells of which B are
 /// directly addressed, T instruction cells.
