@@ -2,7 +2,7 @@
 import itertools
 import random
 
-from cases import FIELDS, START, State, allow, case, cell, field, inside, limit, register, word
+from cases import FIELDS, IMAGE, START, State, allow, case, cell, field, inside, limit, register, word
 from model import BY_MODE, DIRECT, NAMES, REGISTER, SPECIAL, places, price, read_line
 
 MOST = 10**15  # that may be granted
@@ -164,7 +164,7 @@ def parameter_cases():
     ]
     calls = [START]
     for change in changes:
-        yield case(tuple({**good, **change}.values()), b"PUSH DM1", [START], b"", 0, 4, 2, 4)
+        yield case(tuple({**good, **change}.values()), b"PUSH DM1", [IMAGE, START], b"", 0, 4, 2, 4)
         calls += [field(name, value) for name, value in {**good, **change}.items()] + [allow(0)]
     yield case(tuple(good.values()), b"PUSH DM1", calls)
 
