@@ -14,8 +14,10 @@ from model import NAMES
 
 STORED = os.path.join(os.path.dirname(os.path.abspath(__file__)), "..", "..", "crates", "replay")
 ONE_CODE = "PUSH POP NOT AND OR XOR NAND NOR NEG ABS ADD SUB MUL INC DEC JMP JMPEQ JMPNEQ JMPLT JMPGT JMPLE JMPGE SKIP".split()
-CODES = {**dict.fromkeys(NAMES, (0,)), **dict.fromkeys(ONE_CODE, (0, 1)), "IN": (0, 1, 2, 3), "DIV": (0, 1, 2), "MOD": (0, 2), "JMPT": (0, 1, 2), "JMPF": (0, 1, 2)}
-REFUSALS = {"load": (0, 1, 2, 3, 4, 5, 6, 7, 8, 11, 12, 13, 14), "start": (0, 1, 2, 3, 4, 5, 6, 9, 10), "grant": (0, 1, 2, 3, 4, 5, 6, 9, 10, 15, 16, 17)}
+CODES = {
+    **dict.fromkeys(NAMES, (0,)), **dict.fromkeys(ONE_CODE, (0, 1)), "IN": (0, 1, 2, 3), "DIV": (0, 1, 2), "MOD": (0, 2), "JMPT": (0, 1, 2), "JMPF": (0, 1, 2),
+}
+REFUSALS = {"load": (*range(9), 11, 12, 13, 14), "start": (*range(7), 9, 10), "grant": (*range(7), 9, 10, 15, 16, 17)}
 REACHED = {(name, code) for answers in (CODES, REFUSALS, {"ending": range(5)}) for name, codes in answers.items() for code in codes}
 
 

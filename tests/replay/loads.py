@@ -45,7 +45,8 @@ def accepted_cases(rng):
     """Each instruction with wide parameters; each form of each place at both ends of its limits."""
     wide, narrow = (30, 256, 4096, 4096, 18), (8, 3, 5, 2, 18)
     lines = [" ".join([name] + [rng.choice(inside(wide, rng.choice(sorted(place)))) for place in places(name)]) for name in NAMES]
-    ends = [with_argument(name, i, argument) for name in PATTERNS for i, place in enumerate(places(name)) for form in sorted(place) for argument in inside(narrow, form)]
+    forms = [(name, i, form) for name in PATTERNS for i, place in enumerate(places(name)) for form in sorted(place)]
+    ends = [with_argument(name, i, argument) for name, i, form in forms for argument in inside(narrow, form)]
     return shown(wide, lines) + shown(narrow, ends)
 
 
@@ -88,9 +89,11 @@ def damaged_cases(rng):
     for name in PATTERNS:
         calls = [call for i in range(4) for call in (word(i, *rng.choice(odd_words(p))), IMAGE)]
         yield case(p, " ".join([name] + usual(name)).encode(), calls)
-    for at, given in ((2, odd_words(p)), (1, [(1, 2), (1, 3), (2, 1), (2, 2), (0, 1), (3, TOP - 10)]), (3, [(0, 1), (1, 0), (2, 0), (3, 0)]), (0, [(0, 7), (0, 55), (0, 0)])):
+    first, absent, head = [(1, 2), (1, 3), (2, 1), (2, 2), (0, 1), (3, TOP - 10)], [(0, 1), (1, 0), (2, 0), (3, 0)], [(0, 7), (0, 55), (0, 0)]
+    for at, given in ((2, odd_words(p)), (1, first), (3, absent), (0, head)):
         yield case(p, b"SET R0 13", [call for odd in given for call in (word(at, *odd), IMAGE)])
-    yield case((8, 256, 4, 2, 1), b"NEG R0 R0", [call for c in (255, 256, 258, 259) for call in (word(1, 1, c), IMAGE)] + [word(1, 1, 0), word(2, 1, 256), IMAGE])
+    read = [call for register in (255, 256, 258, 259) for call in (word(1, 1, register), IMAGE)]
+    yield case((8, 256, 4, 2, 1), b"NEG R0 R0", read + [word(1, 1, 0), word(2, 1, 256), IMAGE])
     yield case((8, 2, 4, 0, 3), b"NOP", [word(8, 0, 44), IMAGE, word(4, 0, 44), IMAGE, word(0, 0, 0), IMAGE])
 
 
@@ -99,8 +102,8 @@ def random_argument(rng, p, place):
     argument = rng.choice(inside(p, form))
     if rng.random() < 0.8:
         return argument
-    zeros = {REGISTER: argument.replace("R", "R0"), DIRECT: argument.replace("DM", "DM00"), NUMBER: "-00" + argument[1:] if argument[0] == "-" else "+0" + argument}
-    return zeros.get(form, argument)
+    number = "-00" + argument[1:] if argument[0] == "-" else "+0" + argument
+    return {REGISTER: argument.replace("R", "R0"), SPECIAL: argument, DIRECT: argument.replace("DM", "DM00"), NUMBER: number}[form]
 
 
 def random_line(rng, p):

@@ -76,7 +76,8 @@ def instruction_cases(rng):
     for i in range(0, len(lines), p[4]):
         yield instruction_case(rng, p, lines[i : i + p[4]])
     below = (8, 3, 6, 0, 40)  # SHR may be -1
-    yield case(below, b"OUT SHR\nMOV SHR R0\nJMP SHR\nCMPLT SHR R0 R1\nPUSH SHR\nPOP R2\nPOP R2", [START, *(call for at in range(7) for call in (field("iar", at), field("ircr", 0), allow(51)))])
+    text = b"OUT SHR\nMOV SHR R0\nJMP SHR\nCMPLT SHR R0 R1\nPUSH SHR\nPOP R2\nPOP R2"
+    yield case(below, text, [START] + [call for at in range(7) for call in (field("iar", at), field("ircr", 0), allow(51))])
 
 
 def short_cases():
@@ -275,8 +276,9 @@ def changed(rng, p):
     if rng.random() < 0.4:
         kind, slots = rng.choice(((3, n), (4, s)))
         return kind, rng.randrange(slots), rng.choice((edge(rng, k), edge(rng, k), m, -m - 1))
-    name, tried = rng.choice((("iar", (0, t - 1, t, t + 1)), ("ircr", (0, 0, 1, 3, 4)), ("shr", (b - 2, b - 1, s - 1, s)), ("place", (0, 1, 2)), ("spent", (0, WIDE))))
-    return field(name, rng.choice(tried))
+    values = {"iar": (0, t - 1, t, t + 1), "ircr": (0, 0, 1, 3, 4), "shr": (b - 2, b - 1, s - 1, s), "place": (0, 1, 2), "spent": (0, WIDE)}
+    name = rng.choice(list(values))
+    return field(name, rng.choice(values[name]))
 
 
 def random_case(rng):
