@@ -105,18 +105,7 @@ module _ (M : Machine) where
     then-refused : (m g k : ℕ) (e : Option Ending) (c : Call) (cs : List Call) (fin : Account St) (res : List (Result St)) →
         refusal (accountAt M m g) c ≡ suc k → From m g e cs fin res → From m g e (c ∷ cs) fin (refuse (suc k) (accountAt M m g) c ∷ res)
     unfolding joined replies total lastEnding refuse
-    then-refused m g k e c cs fin res h t =
-        record {
-          n = t .n;
-          g′ = t .g′;
-          reaches = t .reaches;
-          fits = t .fits;
-          leaves = t .leaves;
-          outs = t .outs;
-          sum = t .sum;
-          works = refuses h (t .works);
-          largest = t .largest;
-        }
+    then-refused m g k e c cs fin res h t = search refuses
 
     pub grant-accepted : (a : Account St) (c : Call) → refusal a c ≡ 0 → grant M refusal a c ≡ accept M a c
     unfolding grant
