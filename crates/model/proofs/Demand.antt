@@ -72,17 +72,7 @@ module _ (e : Environment) where
       }
 
   to-after : (m : ℕ) (a : Account State) (out out′ : List ℤ) → out ≡ out′ → lists.Stands M m a out′ → IsAfter e m (heldOf p a) out
-  to-after m a out out′ h s =
-      record {
-        instructions = s .reaches;
-        iar = ap (λ (x : State). x .iar) (s .state);
-        ircr = ap (λ (x : State). x .ircr) (s .state);
-        shr = ap (λ (x : State). x .shr) (s .state);
-        place = ap (λ (x : State). x .place) (s .state);
-        memory = ap memoryOf (s .state);
-        outs = h ∙ s .outs;
-        count = s .count;
-      }
+  to-after m a out out′ h s = rw (s .state, h) search
 
   -- The generic theorem in the terms of records, memory and slices.
   module _ (calls : List Call) where
