@@ -20,15 +20,9 @@ registers c = sym (c .before .within2 .ensures) ∙ not-false _ (c .if2 .left)
 cells : (c : tie.Else3) → (between 1 4096 (c .before .before .before .before .before .before .before .args .p .s) && leb (c .before .before .before .before .before .before .before .args .p .s) (limit (c .before .before .before .before .before .before .before .args .p .k) - 1)) ≡ true
 cells c = rw (c .before .before .limit-of .ensures .0) at (sym (c .before .countable .ensures) ∙ not-false _ (c .if3 .left))
 
-within-requires : tie.Need-within-requires
-within-requires c κs = search needs
-
 returns : tie.Need-returns
 unfolding parameterChecks
 returns c = rw (sym (c .before .within .ensures) ∙ not-true _ (c .if1 .taken))
-
-within-requires-2 : tie.Need-within-requires-2
-within-requires-2 c κs = search needs
 
 returns-2 : tie.Need-returns-2
 unfolding parameterChecks
@@ -71,15 +65,5 @@ returns-6 c =
 pub parameter-refusal-spec : {M : Type 1} → statement M
 parameter-refusal-spec =
     tie.close
-    (tie.spec
-    within-requires
-    returns
-    within-requires-2
-    returns-2
-    limit-of-requires
-    countable-requires
-    returns-3
-    returns-4
-    countable-requires-2
-    returns-5
-    returns-6)
+    (tie.spec (λ c κs. search needs) returns (λ c κs. search needs) returns-2 limit-of-requires countable-requires
+    returns-3 returns-4 countable-requires-2 returns-5 returns-6)
