@@ -18,9 +18,6 @@ place s = getD (now (s .args .slots)) (slotOf (s .args .key)) 0
 inside : (e : tie.Else1) → place (e .before .before) < 50
 inside e = omega (arith, e .if1 .left, ap length (e .before .before .pre .0) ∙ table-length)
 
-shared-slice-read-i : tie.Need-shared-slice-read-i
-shared-slice-read-i c = search needs
-
 cast-i : tie.Need-cast-i
 cast-i c = let b = c .shared-slice-known .given (slotOf (c .before .args .key)) .fits in record { fits = omega (arith, b) }
 
@@ -28,12 +25,6 @@ returns : tie.Need-returns
 returns c =
     let s = c .before .before in
     sym (slot-past (now (s .args .slots)) (s .pre .1 .1) (s .args .key) (place s) refl (rw (sym (s .pre .0)) (c .if1 .taken)))
-
-mul-if2 : tie.Need-mul-if2
-mul-if2 c = search needs
-
-shared-slice-read-if2 : tie.Need-shared-slice-read-if2
-shared-slice-read-if2 c = search needs
 
 returns-2 : tie.Need-returns-2
 returns-2 c =
@@ -55,13 +46,5 @@ returns-3 c =
 pub find-key-spec : {M : Type 1} → statement M
 find-key-spec =
     tie.close
-    (tie.spec
-    shared-slice-read-i
-    cast-i
-    returns
-    mul-if2
-    shared-slice-read-if2
-    returns-2
-    cast-result
-    add-result
-    returns-3)
+    (tie.spec (λ c. search needs) cast-i returns (λ c. search needs) (λ c. search needs) returns-2 cast-result
+    add-result returns-3)

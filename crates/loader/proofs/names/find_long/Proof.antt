@@ -6,23 +6,11 @@ use Rattle.loader.proofs.NameLaws.{long-word}
 use Rattle.loader.proofs.names.find_long.Statement.{statement}
 use Rattle.loader.proofs.names.find_long.Tie as tie
 
-slice-aggregate-same-word : tie.Need-slice-aggregate-same-word
-slice-aggregate-same-word c = search needs
-
-same-word-requires : tie.Need-same-word-requires
-same-word-requires c κs = search needs
-
 returns : tie.Need-returns
 returns c =
     let start = c .before .before .before .before in
     let f1 = sym (c .before .same-word .ensures) ∙ c .if1 .taken in
     sym (long-word (now (start .args .w)) (start .pre) ∙ simp (f1))
-
-slice-aggregate-same-word-2 : tie.Need-slice-aggregate-same-word-2
-slice-aggregate-same-word-2 c = search needs
-
-same-word-requires-2 : tie.Need-same-word-requires-2
-same-word-requires-2 c κs = search needs
 
 returns-2 : tie.Need-returns-2
 returns-2 c =
@@ -31,12 +19,6 @@ returns-2 c =
     let f2 = sym (c .before .same-word2 .ensures) ∙ c .if2 .taken in
     sym (long-word (now (start .args .w)) (start .pre) ∙ simp (f1, f2))
 
-slice-aggregate-same-word-3 : tie.Need-slice-aggregate-same-word-3
-slice-aggregate-same-word-3 c = search needs
-
-same-word-requires-3 : tie.Need-same-word-requires-3
-same-word-requires-3 c κs = search needs
-
 returns-3 : tie.Need-returns-3
 returns-3 c =
     let start = c .before .before .before .before .before .before .before .before .before .before in
@@ -44,12 +26,6 @@ returns-3 c =
     let f2 = sym (c .before .before .before .before .same-word2 .ensures) ∙ c .before .before .before .if2 .left in
     let f3 = sym (c .before .same-word3 .ensures) ∙ c .if3 .taken in
     sym (long-word (now (start .args .w)) (start .pre) ∙ simp (f1, f2, f3))
-
-slice-aggregate-same-word-4 : tie.Need-slice-aggregate-same-word-4
-slice-aggregate-same-word-4 c = search needs
-
-same-word-requires-4 : tie.Need-same-word-requires-4
-same-word-requires-4 c κs = search needs
 
 returns-4 : tie.Need-returns-4
 returns-4 c =
@@ -72,17 +48,6 @@ returns-5 c =
 pub find-long-spec : {M : Type 1} → statement M
 find-long-spec =
     tie.close
-    (tie.spec
-    slice-aggregate-same-word
-    same-word-requires
-    returns
-    slice-aggregate-same-word-2
-    same-word-requires-2
-    returns-2
-    slice-aggregate-same-word-3
-    same-word-requires-3
-    returns-3
-    slice-aggregate-same-word-4
-    same-word-requires-4
-    returns-4
-    returns-5)
+    (tie.spec (λ c. search needs) (λ c κs. search needs) returns (λ c. search needs) (λ c κs. search needs)
+    returns-2 (λ c. search needs) (λ c κs. search needs) returns-3 (λ c. search needs) (λ c κs. search needs)
+    returns-4 returns-5)

@@ -9,18 +9,6 @@ use Rattle.loader.proofs.NameLaws.{short-word}
 use Rattle.loader.proofs.names.find_name.Statement.{statement}
 use Rattle.loader.proofs.names.find_name.Tie as tie
 
-find-long-requires : tie.Need-find-long-requires
-find-long-requires c κs = search needs
-
-returns : tie.Need-returns
-returns c = search needs
-
-word-key-requires : tie.Need-word-key-requires
-word-key-requires c κs = search needs
-
-find-key-requires : tie.Need-find-key-requires
-find-key-requires c κs = search needs
-
 returns-2 : tie.Need-returns-2
 returns-2 c =
     let at = c .before .before .before .before in
@@ -31,4 +19,5 @@ returns-2 c =
 
 pub find-name-spec : {M : Type 1} → statement M
 find-name-spec =
-    tie.close (tie.spec find-long-requires returns word-key-requires find-key-requires returns-2)
+    tie.close
+    (tie.spec (λ c κs. search needs) (λ c. search needs) (λ c κs. search needs) (λ c κs. search needs) returns-2)

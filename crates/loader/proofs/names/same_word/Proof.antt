@@ -22,12 +22,6 @@ returns c = let l = c .if1 .taken in sym (other-length _ _ (λ e. absurd (omega 
 loop-holds : tie.Need-loop-holds Inv-loop μ-loop
 loop-holds c = (search needs, c .if1 .left, refl)
 
-shared-slice-read-upper : tie.Need-shared-slice-read-upper Inv-loop μ-loop
-shared-slice-read-upper c = search needs
-
-upper-requires : tie.Need-upper-requires Inv-loop μ-loop
-upper-requires c κs = search needs
-
 shared-slice-read-if2 : tie.Need-shared-slice-read-if2 Inv-loop μ-loop
 shared-slice-read-if2 c = let e = c .before .before .before .before .loop .inv .1 in omega arith
 
@@ -41,12 +35,6 @@ returns-2 c =
     let l : i < length w = search needs in
     let e = at .loop .inv .1 in
     sym (at .loop .inv .2 ∙ other-byte w n i l (omega arith) (λ e. c .if2 .taken (c .before .before .upper .ensures ∙ e)))
-
-add-i : tie.Need-add-i Inv-loop μ-loop
-add-i c = search needs
-
-loop-less : tie.Need-loop-less Inv-loop μ-loop
-loop-less c = search needs
 
 loop-again : tie.Need-loop-again Inv-loop μ-loop
 loop-again c =
@@ -72,16 +60,5 @@ returns-3 c =
 pub same-word-spec : {M : Type 1} → statement M
 same-word-spec =
     tie.close
-    (tie.spec
-    Inv-loop
-    μ-loop
-    returns
-    loop-holds
-    shared-slice-read-upper
-    upper-requires
-    shared-slice-read-if2
-    returns-2
-    add-i
-    loop-less
-    loop-again
-    returns-3)
+    (tie.spec Inv-loop μ-loop returns loop-holds (λ c. search needs) (λ c κs. search needs) shared-slice-read-if2
+    returns-2 (λ c. search needs) (λ c. search needs) loop-again returns-3)

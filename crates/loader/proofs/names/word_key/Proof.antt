@@ -26,27 +26,12 @@ mul-key c =
     let f = key-fits (c .before .loop .key) 0 (c .before .loop .i) (inv .2) (omega arith) (omega arith) in
     omega arith
 
-shared-slice-read-upper : tie.Need-shared-slice-read-upper Inv-loop μ-loop
-shared-slice-read-upper c = search needs
-
-upper-requires : tie.Need-upper-requires Inv-loop μ-loop
-upper-requires c κs = search needs
-
-cast-key : tie.Need-cast-key Inv-loop μ-loop
-cast-key c = search needs
-
 add-key : tie.Need-add-key Inv-loop μ-loop
 add-key c =
     let at = c .before .before .before in
     let inv = at .loop .inv in
     let f = key-fits (at .loop .key) (c .upper .result) (at .loop .i) (inv .2) (omega arith) (c .upper .ok) in
     omega arith
-
-add-i : tie.Need-add-i Inv-loop μ-loop
-add-i c = search needs
-
-loop-less : tie.Need-loop-less Inv-loop μ-loop
-loop-less c = search needs
 
 loop-again : tie.Need-loop-again Inv-loop μ-loop
 loop-again c =
@@ -67,16 +52,5 @@ returns c = let inv = c .before .loop .inv in sym (inv .3 ∙ key-end _ _ _ (c .
 pub word-key-spec : {M : Type 1} → statement M
 word-key-spec =
     tie.close
-    (tie.spec
-    Inv-loop
-    μ-loop
-    loop-holds
-    mul-key
-    shared-slice-read-upper
-    upper-requires
-    cast-key
-    add-key
-    add-i
-    loop-less
-    loop-again
-    returns)
+    (tie.spec Inv-loop μ-loop loop-holds mul-key (λ c. search needs) (λ c κs. search needs) (λ c. search needs)
+    add-key (λ c. search needs) (λ c. search needs) loop-again returns)
