@@ -14,23 +14,11 @@ use Rattle.numbers.proofs.reading.negative.Tie as tie
 fits : (v : ℕ) → v < 2 ^ hbits w32 → SFits w32 (negℤ (pos v))
 fits v h = record { sfits = lt-of-le-of-lt (mag-neg-pos v) h }
 
-enum-told : tie.Need-enum-told
-enum-told c = search needs
-
-enum-known-d : tie.Need-enum-known-d
-enum-known-d c = search needs
-
-cast-t8 : tie.Need-cast-t8
-cast-t8 c = search needs
-
 sub-t9 : tie.Need-sub-t9
 sub-t9 c =
     let v = c .before .before .d .given .0 .0 in
     let h : v < 2 ^ hbits w32 = omega arith in
     rw (toZ-pos w32 h, zero-minus) (fits v h)
-
-returns : tie.Need-returns
-returns c = search needs
 
 returns-2 : tie.Need-returns-2
 returns-2 c =
@@ -43,4 +31,7 @@ returns-3 : tie.Need-returns-3
 returns-3 c = simp (c .before .before .d .given .1, lt-leb _ _ (c .if1 .left))
 
 pub negative-spec : {M : Type 1} → statement M
-negative-spec = tie.close (tie.spec enum-told enum-known-d cast-t8 sub-t9 returns returns-2 returns-3)
+negative-spec =
+    tie.close
+    (tie.spec (λ c. search needs) (λ c. search needs) (λ c. search needs) sub-t9 (λ c. search needs) returns-2
+    returns-3)

@@ -9,18 +9,6 @@ use mir.Facts.{toZ-pos}
 use Rattle.numbers.proofs.reading.positive.Statement.{statement}
 use Rattle.numbers.proofs.reading.positive.Tie as tie
 
-enum-told : tie.Need-enum-told
-enum-told c = search needs
-
-enum-known-d : tie.Need-enum-known-d
-enum-known-d c = search needs
-
-cast-t8 : tie.Need-cast-t8
-cast-t8 c = search needs
-
-returns : tie.Need-returns
-returns c = search needs
-
 returns-2 : tie.Need-returns-2
 returns-2 c =
     let g = c .before .before .d .given in
@@ -31,4 +19,6 @@ returns-3 : tie.Need-returns-3
 returns-3 c = simp (c .before .before .d .given .1, le-ltb _ _ (c .if1 .left))
 
 pub positive-spec : {M : Type 1} → statement M
-positive-spec = tie.close (tie.spec enum-told enum-known-d cast-t8 returns returns-2 returns-3)
+positive-spec =
+    tie.close
+    (tie.spec (λ c. search needs) (λ c. search needs) (λ c. search needs) (λ c. search needs) returns-2 returns-3)

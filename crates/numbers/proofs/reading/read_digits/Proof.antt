@@ -26,17 +26,8 @@ returns c =
     let h : length (now (a .w)) ≤ a .from = omega arith in
     rw (drop-of-length-le (now (a .w)) h)
 
-skip-zeros-requires : tie.Need-skip-zeros-requires Inv-loop μ-loop
-skip-zeros-requires c κs = search needs
-
 loop-holds : tie.Need-loop-holds Inv-loop μ-loop
 loop-holds c = (c .skip-zeros .ensures .0, (0, refl, natural-at _ _ (c .before .if1 .left) ∙ c .skip-zeros .ensures .1))
-
-shared-slice-read-b : tie.Need-shared-slice-read-b Inv-loop μ-loop
-shared-slice-read-b c = search needs
-
-is-digit-requires : tie.Need-is-digit-requires Inv-loop μ-loop
-is-digit-requires c κs = search needs
 
 returns-2 : tie.Need-returns-2 Inv-loop μ-loop
 returns-2 c =
@@ -49,9 +40,6 @@ append-digit-requires c κs =
     let inv = c .before .before .before .before .loop .inv .1 in
     (omega (arith, inv .1), sym (c .before .is-digit .ensures) ∙ not-false _ (c .if2 .left))
 
-add-i : tie.Need-add-i Inv-loop μ-loop
-add-i c = search needs
-
 -- The digits passed, with this one, and their exact value.
 passed : (c : tie.After-append-digit Inv-loop μ-loop) →
     (e : ℕ) × (c .append-digit .result ≡ min (2 ^ 30) e) × (natural (drop (c .before .before .before .before .before .before .before .before .before .args .from) (now (c .before .before .before .before .before .before .before .before .before .args .w))) ≡ digitsFrom e (drop (c .before .before .before .before .before .loop .i + 1) (now (c .before .before .before .before .before .before .before .before .before .args .w))))
@@ -62,16 +50,10 @@ passed c =
     let is = sym (c .before .before .is-digit .ensures) ∙ not-false _ (c .before .if2 .left) in
     (inv .0 * 10 + (b - 48), omega (arith, inv .1, c .append-digit .ensures), inv .2 ∙ digit _ _ (at .loop-test .taken) (inv .0) is)
 
-read-rest-requires : tie.Need-read-rest-requires Inv-loop μ-loop
-read-rest-requires c κs = search needs
-
 returns-3 : tie.Need-returns-3 Inv-loop μ-loop
 returns-3 c =
     let p = passed (c .before .before) in
     c .read-rest .ensures (p .0) (omega (arith, p .1, c .before .if3 .taken)) ∙ sym (ap capped (p .2))
-
-loop-less : tie.Need-loop-less Inv-loop μ-loop
-loop-less c = search needs
 
 loop-again : tie.Need-loop-again Inv-loop μ-loop
 loop-again c = (search needs, passed (c .before))
@@ -84,19 +66,6 @@ returns-4 c =
 pub read-digits-spec : {M : Type 1} → statement M
 read-digits-spec =
     tie.close
-    (tie.spec
-    Inv-loop
-    μ-loop
-    returns
-    skip-zeros-requires
-    loop-holds
-    shared-slice-read-b
-    is-digit-requires
-    returns-2
-    append-digit-requires
-    add-i
-    read-rest-requires
-    returns-3
-    loop-less
-    loop-again
-    returns-4)
+    (tie.spec Inv-loop μ-loop returns (λ c κs. search needs) loop-holds (λ c. search needs) (λ c κs. search needs)
+    returns-2 append-digit-requires (λ c. search needs) (λ c κs. search needs) returns-3 (λ c. search needs)
+    loop-again returns-4)

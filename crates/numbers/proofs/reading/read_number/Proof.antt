@@ -15,18 +15,6 @@ returns c =
     let a = c .before .before .args in
     with-answer (a .m) (number (now (a .w))) (sym (ap (readingOf (a .m)) (number-none (now (a .w)) (c .if1 .taken))))
 
-shared-slice-read-b : tie.Need-shared-slice-read-b
-shared-slice-read-b c = search needs
-
-sign-length-requires : tie.Need-sign-length-requires
-sign-length-requires c κs = search needs
-
-read-digits-requires : tie.Need-read-digits-requires
-read-digits-requires c κs = search needs
-
-negative-requires : tie.Need-negative-requires
-negative-requires c κs = search needs
-
 returns-2 : tie.Need-returns-2
 returns-2 c =
     let digits = c .before .before in
@@ -39,9 +27,6 @@ returns-2 c =
     ∙ ap (negativeOf m) (digits .read-digits .ensures ∙ ap (λ (k : ℕ). capped (natural (drop k w))) one)
     ∙ negative-capped m (at .pre .0) (at .pre .1) (natural (drop 1 w))
     ∙ sym (ap (readingOf m) (number-minus w (search needs) (c .before .if2 .taken))))
-
-positive-requires : tie.Need-positive-requires
-positive-requires c κs = search needs
 
 returns-3 : tie.Need-returns-3
 returns-3 c =
@@ -59,12 +44,5 @@ returns-3 c =
 pub read-number-spec : {M : Type 1} → statement M
 read-number-spec =
     tie.close
-    (tie.spec
-    returns
-    shared-slice-read-b
-    sign-length-requires
-    read-digits-requires
-    negative-requires
-    returns-2
-    positive-requires
-    returns-3)
+    (tie.spec returns (λ c. search needs) (λ c κs. search needs) (λ c κs. search needs) (λ c κs. search needs)
+    returns-2 (λ c κs. search needs) returns-3)
