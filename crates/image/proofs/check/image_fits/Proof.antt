@@ -20,43 +20,16 @@ abbrev μ-loop : tie.MeasureT-loop
 limit-of-requires : tie.Need-limit-of-requires Inv-loop μ-loop
 limit-of-requires c κs = let l = limits (c .before .args .p) (c .before .pre .0) in (l .k-low, l .k-high)
 
-form-table-requires : tie.Need-form-table-requires Inv-loop μ-loop
-form-table-requires c κs = search needs
-
 loop-holds : tie.Need-loop-holds Inv-loop μ-loop
 loop-holds c =
     let a = c .before .before .before .args in
     (search needs, refl, cells-start (a .p) (now (a .image)))
-
-add-next : tie.Need-add-next Inv-loop μ-loop
-add-next c = search needs
-
-mul-decode : tie.Need-mul-decode Inv-loop μ-loop
-mul-decode c = search needs
-
-sub-decode : tie.Need-sub-decode Inv-loop μ-loop
-sub-decode c = search needs
-
-part-decode-start : tie.Need-part-decode-start Inv-loop μ-loop
-part-decode-start c = search needs
-
-part-decode-end : tie.Need-part-decode-end Inv-loop μ-loop
-part-decode-end c = search needs
-
-slice-aggregate-decode : tie.Need-slice-aggregate-decode Inv-loop μ-loop
-slice-aggregate-decode c = search needs
 
 decode-requires : tie.Need-decode-requires Inv-loop μ-loop
 decode-requires c κs =
     let at = c .before .before .before in
     let start = at .before .before .before .before in
     (part-length (start .args .p) (now (start .args .image)) (at .loop .at) (omega (arith, c .before .before .loop-test .taken, start .pre .1)) (at .loop .inv .1) (start .pre .1), (start .pre .0, (at .before .before .limit-of .ensures .0, at .before .form-table .ensures)))
-
-enum-told : tie.Need-enum-told Inv-loop μ-loop
-enum-told c = search needs
-
-loop-less : tie.Need-loop-less Inv-loop μ-loop
-loop-less c = search needs
 
 loop-again : tie.Need-loop-again Inv-loop μ-loop
 loop-again c =
@@ -65,21 +38,12 @@ loop-again c =
     let less = c .before .before .before .before .before .loop-test .taken in
     (omega (arith, less, start .pre .1, at .loop .inv .1), omega (arith, at .loop .inv .1), at .loop .inv .2 ∙ cell-runs (start .args .p) (now (start .args .image)) (at .loop .at) (omega (arith, less, start .pre .1)) (at .loop .inv .1) (c .before .before .decode .ensures) (c .enum-told .given .1))
 
-enum-told-2 : tie.Need-enum-told-2 Inv-loop μ-loop
-enum-told-2 c = search needs
-
-all-zero-requires : tie.Need-all-zero-requires Inv-loop μ-loop
-all-zero-requires c κs = search needs
-
 returns : tie.Need-returns Inv-loop μ-loop
 returns c =
     let at = c .before .before .before .before .before .before .before in
     let start = at .before .before .before .before in
     let less = c .before .before .before .before .before .before .loop-test .taken in
     c .all-zero .ensures ∙ sym (at .loop .inv .2 ∙ cell-empty (start .args .p) (now (start .args .image)) (at .loop .at) (omega (arith, less, start .pre .1)) (at .loop .inv .1) (c .before .before .before .decode .ensures) (c .before .enum-told2 .given .1))
-
-enum-told-3 : tie.Need-enum-told-3 Inv-loop μ-loop
-enum-told-3 c = search needs
 
 returns-2 : tie.Need-returns-2 Inv-loop μ-loop
 returns-2 c =
@@ -97,25 +61,7 @@ returns-3 c =
 pub image-fits-spec : {M : Type 1} → statement M
 image-fits-spec =
     tie.close
-    (tie.spec
-    Inv-loop
-    μ-loop
-    limit-of-requires
-    form-table-requires
-    loop-holds
-    add-next
-    mul-decode
-    sub-decode
-    part-decode-start
-    part-decode-end
-    slice-aggregate-decode
-    decode-requires
-    enum-told
-    loop-less
-    loop-again
-    enum-told-2
-    all-zero-requires
-    returns
-    enum-told-3
-    returns-2
-    returns-3)
+    (tie.spec Inv-loop μ-loop limit-of-requires (λ c κs. search needs) loop-holds (λ c. search needs)
+    (λ c. search needs) (λ c. search needs) (λ c. search needs) (λ c. search needs) (λ c. search needs)
+    decode-requires (λ c. search needs) (λ c. search needs) loop-again (λ c. search needs) (λ c κs. search needs)
+    returns (λ c. search needs) returns-2 returns-3)

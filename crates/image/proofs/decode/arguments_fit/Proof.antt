@@ -6,22 +6,13 @@ use borrow.Author.Needs.{needs}
 use Rattle.image.proofs.decode.arguments_fit.Statement.{statement}
 use Rattle.image.proofs.decode.arguments_fit.Tie as tie
 
-place-fits-requires : tie.Need-place-fits-requires
-place-fits-requires c κs = search needs
-
 returns : tie.Need-returns
 unfolding placesFit
 returns c = rw (sym (c .before .place-fits .ensures) ∙ not-true _ (c .if1 .taken))
 
-place-fits-requires-2 : tie.Need-place-fits-requires-2
-place-fits-requires-2 c κs = search needs
-
 returns-2 : tie.Need-returns-2
 unfolding placesFit
 returns-2 c = rw (sym (c .before .before .before .place-fits .ensures) ∙ not-false _ (c .before .before .if1 .left), sym (c .before .place-fits2 .ensures) ∙ not-true _ (c .if2 .taken))
-
-place-fits-requires-3 : tie.Need-place-fits-requires-3
-place-fits-requires-3 c κs = search needs
 
 returns-3 : tie.Need-returns-3
 unfolding placesFit
@@ -30,10 +21,4 @@ returns-3 c = rw (sym (c .before .before .before .before .place-fits .ensures) �
 pub arguments-fit-spec : {M : Type 1} → statement M
 arguments-fit-spec =
     tie.close
-    (tie.spec
-    place-fits-requires
-    returns
-    place-fits-requires-2
-    returns-2
-    place-fits-requires-3
-    returns-3)
+    (tie.spec (λ c κs. search needs) returns (λ c κs. search needs) returns-2 (λ c κs. search needs) returns-3)

@@ -14,12 +14,6 @@ returns-2 c =
     let a = c .before .before .before .args in
     sym (cell-high (a .p) (cellFrom (a .i)) (c .before .if1 .left) (c .if2 .taken))
 
-forms-of-requires : tie.Need-forms-of-requires
-forms-of-requires c κs = search needs
-
-arguments-fit-requires : tie.Need-arguments-fit-requires
-arguments-fit-requires c κs = search needs
-
 returns-3 : tie.Need-returns-3
 returns-3 c =
     let a = c .before .before .before .before .before .args in
@@ -27,5 +21,4 @@ returns-3 c =
     ∙ sym (cell-between (a .p) (cellFrom (a .i)) (c .before .before .before .if1 .left) (c .before .before .if2 .left))
 
 pub cell-fits-spec : {M : Type 1} → statement M
-cell-fits-spec =
-    tie.close (tie.spec returns returns-2 forms-of-requires arguments-fit-requires returns-3)
+cell-fits-spec = tie.close (tie.spec returns returns-2 (λ c κs. search needs) (λ c κs. search needs) returns-3)

@@ -5,18 +5,9 @@ use Rattle.image.specs.Decode.{decodedOf}
 use Rattle.image.proofs.decode.decode.Statement.{statement}
 use Rattle.image.proofs.decode.decode.Tie as tie
 
-read-cell-requires : tie.Need-read-cell-requires
-read-cell-requires c κs = search needs
-
-is-empty-requires : tie.Need-is-empty-requires
-is-empty-requires c κs = search needs
-
 returns : tie.Need-returns
 unfolding decodedOf
 returns c = rw (rw (c .before .before .read-cell .ensures) at (sym (c .before .is-empty .ensures) ∙ c .if1 .taken))
-
-cell-fits-requires : tie.Need-cell-fits-requires
-cell-fits-requires c κs = search needs
 
 returns-2 : tie.Need-returns-2
 unfolding decodedOf
@@ -37,4 +28,4 @@ returns-3 c =
 pub decode-spec : {M : Type 1} → statement M
 decode-spec =
     tie.close
-    (tie.spec read-cell-requires is-empty-requires returns cell-fits-requires returns-2 returns-3)
+    (tie.spec (λ c κs. search needs) (λ c κs. search needs) returns (λ c κs. search needs) returns-2 returns-3)

@@ -9,12 +9,9 @@ returns : tie.Need-returns
 unfolding placeFits
 returns c = rw (eq-eqb _ _ (c .if1 .taken))
 
-word-fits-requires : tie.Need-word-fits-requires
-word-fits-requires c κs = search needs
-
 returns-2 : tie.Need-returns-2
 unfolding placeFits
 returns-2 c = rw (ne-eqb _ _ (c .before .if1 .left)) (c .word-fits .ensures)
 
 pub place-fits-spec : {M : Type 1} → statement M
-place-fits-spec = tie.close (tie.spec returns word-fits-requires returns-2)
+place-fits-spec = tie.close (tie.spec returns (λ c κs. search needs) returns-2)

@@ -10,22 +10,10 @@ use borrow.Author.Needs.{needs}
 use Rattle.image.proofs.decode.word_fits.Statement.{statement}
 use Rattle.image.proofs.decode.word_fits.Tie as tie
 
-kind-requires : tie.Need-kind-requires
-kind-requires c κs = search needs
-
-content-requires : tie.Need-content-requires
-content-requires c κs = search needs
-
 register-fits-requires : tie.Need-register-fits-requires
 register-fits-requires c κs =
     let start = c .before .before .before in
     limits (start .args .p) (start .pre .0) .n-high
-
-content-requires-2 : tie.Need-content-requires-2
-content-requires-2 c κs = search needs
-
-number-requires : tie.Need-number-requires
-number-requires c κs = search needs
 
 in-range-requires : tie.Need-in-range-requires
 in-range-requires c κs =
@@ -70,16 +58,5 @@ returns-6 c =
 pub word-fits-spec : {M : Type 1} → statement M
 word-fits-spec =
     tie.close
-    (tie.spec
-    kind-requires
-    content-requires
-    register-fits-requires
-    content-requires-2
-    number-requires
-    in-range-requires
-    returns
-    returns-2
-    returns-3
-    returns-4
-    returns-5
-    returns-6)
+    (tie.spec (λ c κs. search needs) (λ c κs. search needs) register-fits-requires (λ c κs. search needs)
+    (λ c κs. search needs) in-range-requires returns returns-2 returns-3 returns-4 returns-5 returns-6)

@@ -5,15 +5,6 @@ use borrow.Author.Needs.{needs}
 use Rattle.image.proofs.forms.forms_of.Statement.{statement}
 use Rattle.image.proofs.forms.forms_of.Tie as tie
 
-sub-i : tie.Need-sub-i
-sub-i c = search needs
-
-cast-i : tie.Need-cast-i
-cast-i c = search needs
-
-mul-result : tie.Need-mul-result
-mul-result c = search needs
-
 shared-slice-read-result : tie.Need-shared-slice-read-result
 shared-slice-read-result c = rw (c .before .pre .0) (rw table-length (omega arith))
 
@@ -21,4 +12,6 @@ returns : tie.Need-returns
 returns c = rw (c .before .pre .0) (table-entry (c .before .args .number))
 
 pub forms-of-spec : {M : Type 1} → statement M
-forms-of-spec = tie.close (tie.spec sub-i cast-i mul-result shared-slice-read-result returns)
+forms-of-spec =
+    tie.close
+    (tie.spec (λ c. search needs) (λ c. search needs) (λ c. search needs) shared-slice-read-result returns)

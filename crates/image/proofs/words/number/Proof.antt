@@ -12,12 +12,6 @@ use Rattle.image.proofs.words.number.Tie as tie
 below : (c : tie.After-content) → c .content .result < 2 ^ 30
 below c = omega (arith, c .content .ensures)
 
-content-requires : tie.Need-content-requires
-content-requires c κs = search needs
-
-add-raised : tie.Need-add-raised
-add-raised c = search needs
-
 cast-result : tie.Need-cast-result
 cast-result c = search needs
 
@@ -28,4 +22,4 @@ returns : tie.Need-returns
 returns c = toZ-ofZ (sub-result c) ∙ number-read (c .content .result) (below c) ∙ ap numberOf (c .content .ensures)
 
 pub number-spec : {M : Type 1} → statement M
-number-spec = tie.close (tie.spec content-requires add-raised cast-result sub-result returns)
+number-spec = tie.close (tie.spec (λ c κs. search needs) (λ c. search needs) cast-result sub-result returns)
