@@ -15,20 +15,8 @@ Inv-loop l from at₀ count₀ at count = (at ≤ length l) × (count ≤ at) ×
 abbrev μ-loop : tie.MeasureT-loop
 μ-loop l from at₀ count₀ at count = length l - at
 
-loop-holds : tie.Need-loop-holds Inv-loop μ-loop
-loop-holds c = search needs
-
-next-word-requires : tie.Need-next-word-requires Inv-loop μ-loop
-next-word-requires c κs = search needs
-
 returns : tie.Need-returns Inv-loop μ-loop
 returns c = omega (arith, ap length (c .before .before .next-word .ensures .none (c .if1 .taken)))
-
-add-count : tie.Need-add-count Inv-loop μ-loop
-add-count c = search needs
-
-loop-less : tie.Need-loop-less Inv-loop μ-loop
-loop-less c = search needs
 
 loop-again : tie.Need-loop-again Inv-loop μ-loop
 loop-again c = omega (arith, ap length (first-word (c .before .before .next-word .ensures) (c .if1 .left)))
@@ -36,4 +24,5 @@ loop-again c = omega (arith, ap length (first-word (c .before .before .next-word
 pub count-words-spec : {M : Type 1} → statement M
 count-words-spec =
     tie.close
-    (tie.spec Inv-loop μ-loop loop-holds next-word-requires returns add-count loop-less loop-again)
+    (tie.spec Inv-loop μ-loop (λ c. search needs) (λ c κs. search needs) returns (λ c. search needs)
+    (λ c. search needs) loop-again)

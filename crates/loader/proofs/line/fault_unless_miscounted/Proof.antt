@@ -4,12 +4,6 @@ use borrow.Author.Needs.{needs}
 use Rattle.loader.proofs.line.fault_unless_miscounted.Statement.{statement}
 use Rattle.loader.proofs.line.fault_unless_miscounted.Tie as tie
 
-count-words-requires : tie.Need-count-words-requires
-count-words-requires c κs = search needs
-
-form-count-requires : tie.Need-form-count-requires
-form-count-requires c κs = search needs
-
 returns : tie.Need-returns
 returns c =
     let e = sym (c .before .before .count-words .ensures) ∙ c .if1 .taken ∙ c .before .form-count .ensures in
@@ -20,5 +14,4 @@ returns-2 c =
     simp (ne-eqb _ _ (λ e. c .if1 .left (c .before .before .count-words .ensures ∙ e ∙ sym (c .before .form-count .ensures))))
 
 pub fault-unless-miscounted-spec : {M : Type 1} → statement M
-fault-unless-miscounted-spec =
-    tie.close (tie.spec count-words-requires form-count-requires returns returns-2)
+fault-unless-miscounted-spec = tie.close (tie.spec (λ c κs. search needs) (λ c κs. search needs) returns returns-2)

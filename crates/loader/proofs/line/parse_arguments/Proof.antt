@@ -28,20 +28,8 @@ returns c =
     let a = at .before .before .args in
     sym (ap parsedOf (too-few (a .p) (a .number) (now (a .l)) (a .from) (at .loop .inv .1) (c .before .before .loop-test .taken) (c .before .next-word .ensures) (c .if1 .taken)))
 
-sub-argument-word : tie.Need-sub-argument-word Inv-loop μ-loop
-sub-argument-word c = search needs
-
-part-argument-word-start : tie.Need-part-argument-word-start Inv-loop μ-loop
-part-argument-word-start c = search needs
-
-part-argument-word-end : tie.Need-part-argument-word-end Inv-loop μ-loop
-part-argument-word-end c = search needs
-
 argument-word-requires : tie.Need-argument-word-requires Inv-loop μ-loop
 argument-word-requires c κs = c .before .before .before .before .before .before .pre .0
-
-enum-known-placed : tie.Need-enum-known-placed Inv-loop μ-loop
-enum-known-placed c = search needs
 
 fault-unless-miscounted-requires : tie.Need-fault-unless-miscounted-requires Inv-loop μ-loop
 fault-unless-miscounted-requires c κs = c .before .before .before .before .before .before .next-word .ensures .high
@@ -57,12 +45,6 @@ returns-2 c =
     ∙ sym (ap parsedOf (at-fault (a .p) (a .number) (now (a .l)) (a .from) inv (e .before .before .loop-test .taken) w (e .if1 .left) _
     (sym (c .before .before .before .before .argument-word .ensures) ∙ c .before .before .placed .given .1)))
 
-enum-known-placed-2 : tie.Need-enum-known-placed-2 Inv-loop μ-loop
-enum-known-placed-2 c = search needs
-
-mul-arguments : tie.Need-mul-arguments Inv-loop μ-loop
-mul-arguments c = search needs
-
 array-write-arguments : tie.Need-array-write-arguments Inv-loop μ-loop
 array-write-arguments c =
     let e = c .before .before .before .before .before in
@@ -71,12 +53,6 @@ array-write-arguments c =
     let inv = at .loop .inv .1 in
     let w = e .before .next-word .ensures in
     omega (arith, at .loop .inv .0, slot-free (a .p) (a .number) (now (a .l)) (a .from) inv (e .before .before .loop-test .taken))
-
-add-i : tie.Need-add-i Inv-loop μ-loop
-add-i c = search needs
-
-loop-less : tie.Need-loop-less Inv-loop μ-loop
-loop-less c = search needs
 
 loop-again : tie.Need-loop-again Inv-loop μ-loop
 loop-again c =
@@ -100,15 +76,6 @@ returns-3 c =
     sym (ap parsedOf (too-many (a .p) (a .number) (now (a .l)) (a .from) (at .loop .inv .1) (c .before .before .loop-test .left)
     (λ e. c .if2 .taken (c .before .count-words .ensures ∙ e))))
 
-array-read-t30 : tie.Need-array-read-t30 Inv-loop μ-loop
-array-read-t30 c = search needs
-
-array-read-t33 : tie.Need-array-read-t33 Inv-loop μ-loop
-array-read-t33 c = search needs
-
-array-read-t36 : tie.Need-array-read-t36 Inv-loop μ-loop
-array-read-t36 c = search needs
-
 returns-4 : tie.Need-returns-4 Inv-loop μ-loop
 returns-4 c =
     let at = c .before .before .before in
@@ -119,28 +86,7 @@ returns-4 c =
 pub parse-arguments-spec : {M : Type 1} → statement M
 parse-arguments-spec =
     tie.close
-    (tie.spec
-    Inv-loop
-    μ-loop
-    loop-holds
-    next-word-requires
-    returns
-    sub-argument-word
-    part-argument-word-start
-    part-argument-word-end
-    argument-word-requires
-    enum-known-placed
-    fault-unless-miscounted-requires
-    returns-2
-    enum-known-placed-2
-    mul-arguments
-    array-write-arguments
-    add-i
-    loop-less
-    loop-again
-    count-words-requires
-    returns-3
-    array-read-t30
-    array-read-t33
-    array-read-t36
-    returns-4)
+    (tie.spec Inv-loop μ-loop loop-holds next-word-requires returns (λ c. search needs) (λ c. search needs)
+    (λ c. search needs) argument-word-requires (λ c. search needs) fault-unless-miscounted-requires returns-2
+    (λ c. search needs) (λ c. search needs) array-write-arguments (λ c. search needs) (λ c. search needs) loop-again
+    count-words-requires returns-3 (λ c. search needs) (λ c. search needs) (λ c. search needs) returns-4)

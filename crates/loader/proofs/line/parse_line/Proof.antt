@@ -16,25 +16,10 @@ use Rattle.loader.proofs.LineLaws.{line-empty, line-unknown, line-known
 use Rattle.loader.proofs.line.parse_line.Statement.{statement}
 use Rattle.loader.proofs.line.parse_line.Tie as tie
 
-next-word-requires : tie.Need-next-word-requires
-next-word-requires c κs = search needs
-
 returns : tie.Need-returns
 returns c =
     let a = c .before .before .before .before .before .before .args in
     sym (ap (λ (ws : List (List ℕ)). parsedOf (lineCell (a .p) ws)) (c .before .next-word .ensures .none (c .if1 .taken)) ∙ ap parsedOf (line-empty (a .p)))
-
-sub-find-name : tie.Need-sub-find-name
-sub-find-name c = search needs
-
-part-find-name-start : tie.Need-part-find-name-start
-part-find-name-start c = search needs
-
-part-find-name-end : tie.Need-part-find-name-end
-part-find-name-end c = search needs
-
-find-name-requires : tie.Need-find-name-requires
-find-name-requires c κs = search needs
 
 returns-2 : tie.Need-returns-2
 returns-2 c =
@@ -56,9 +41,6 @@ forms-of-requires c κs =
     let h = lookup-number w (λ z. c .if2 .left (q ∙ z)) in
     (s .pre .1 .2, omega (arith, q, h .0), omega (arith, q, h .1))
 
-parse-arguments-requires : tie.Need-parse-arguments-requires
-parse-arguments-requires c κs = search needs
-
 returns-3 : tie.Need-returns-3
 returns-3 c =
     let k = c .before .before in
@@ -77,14 +59,5 @@ returns-3 c =
 pub parse-line-spec : {M : Type 1} → statement M
 parse-line-spec =
     tie.close
-    (tie.spec
-    next-word-requires
-    returns
-    sub-find-name
-    part-find-name-start
-    part-find-name-end
-    find-name-requires
-    returns-2
-    forms-of-requires
-    parse-arguments-requires
-    returns-3)
+    (tie.spec (λ c κs. search needs) returns (λ c. search needs) (λ c. search needs) (λ c. search needs)
+    (λ c κs. search needs) returns-2 forms-of-requires (λ c κs. search needs) returns-3)
