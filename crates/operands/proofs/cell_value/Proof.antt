@@ -7,17 +7,8 @@ use borrow.Author.Needs.{needs}
 use Rattle.operands.proofs.cell_value.Statement.{statement}
 use Rattle.operands.proofs.cell_value.Tie as tie
 
-mul-result : tie.Need-mul-result
-mul-result c = search needs
-
-shared-slice-copy-out-result : tie.Need-shared-slice-copy-out-result
-shared-slice-copy-out-result c = search needs
-
-returns : tie.Need-returns
-returns c = search needs
-
 returns-2 : tie.Need-returns-2
 returns-2 c = sym (List·getD-eq-default (c .before .args .cells .now) (pos 0) {n = c .before .args .index} (omega (arith, c .if1 .left)))
 
 pub cell-value-spec : {M : Type 1} → statement M
-cell-value-spec = tie.close (tie.spec mul-result shared-slice-copy-out-result returns returns-2)
+cell-value-spec = tie.close (tie.spec (λ c. search needs) (λ c. search needs) (λ c. search needs) returns-2)

@@ -10,20 +10,11 @@ use Rattle.operands.proofs.OperandLaws.{register-alone, word-register, 
 use Rattle.operands.proofs.other_value.Statement.{statement}
 use Rattle.operands.proofs.other_value.Tie as tie
 
-number-requires : tie.Need-number-requires
-number-requires c κs = search needs
-
 returns : tie.Need-returns
 returns c =
     let f : SFits w32 (c .number .result) = record { sfits = c .number .ok } in
     let s = c .before .before in
     toZ-ofZ f ∙ c .number .ensures ∙ sym (word-number _ (s .args .w) (omega (arith, s .fits .w .fits, c .before .if1 .taken)))
-
-content-requires : tie.Need-content-requires
-content-requires c κs = search needs
-
-cell-value-requires : tie.Need-cell-value-requires
-cell-value-requires c κs = search needs
 
 returns-2 : tie.Need-returns-2
 returns-2 c =
@@ -31,12 +22,6 @@ returns-2 c =
     let s = c .before .before .before .before in
     toZ-ofZ f ∙ c .cell-value .ensures
     ∙ rw (c .before .content .ensures) (sym (word-cell _ (s .args .w) (omega (arith, c .before .before .before .if1 .left, c .before .before .if2 .taken))))
-
-content-requires-2 : tie.Need-content-requires-2
-content-requires-2 c κs = search needs
-
-special-value-requires : tie.Need-special-value-requires
-special-value-requires c κs = search needs
 
 returns-3 : tie.Need-returns-3
 returns-3 c =
@@ -55,13 +40,5 @@ returns-4 c =
 pub other-value-spec : {M : Type 1} → statement M
 other-value-spec =
     tie.close
-    (tie.spec
-    number-requires
-    returns
-    content-requires
-    cell-value-requires
-    returns-2
-    content-requires-2
-    special-value-requires
-    returns-3
-    returns-4)
+    (tie.spec (λ c κs. search needs) returns (λ c κs. search needs) (λ c κs. search needs) returns-2
+    (λ c κs. search needs) (λ c κs. search needs) returns-3 returns-4)

@@ -11,27 +11,12 @@ use Rattle.operands.proofs.OperandLaws.{read-register, read-other}
 use Rattle.operands.proofs.read.Statement.{statement}
 use Rattle.operands.proofs.read.Tie as tie
 
-wrapping-sub-u32-requires : tie.Need-wrapping-sub-u32-requires
-wrapping-sub-u32-requires c κs = search needs
-
-cast-r : tie.Need-cast-r
-cast-r c = search needs
-
-mul-result : tie.Need-mul-result
-mul-result c = search needs
-
-shared-slice-copy-out-result : tie.Need-shared-slice-copy-out-result
-shared-slice-copy-out-result c = search needs
-
 returns : tie.Need-returns
 returns c =
     let start = c .before .before .before in
     let s = c .before .before .wrapping-sub-u32 in
     let g = c .result .given in let f : SFits w32 (getD (start .args .registers .now) (s .result) (pos 0)) = search needs in
     toZ-ofZ f ∙ sym (read-register _ (start .args .w) (s .result) (s .ensures) (start .pre .register-count) (c .before .if1 .taken))
-
-other-value-requires : tie.Need-other-value-requires
-other-value-requires c κs = search needs
 
 returns-2 : tie.Need-returns-2
 returns-2 c =
@@ -43,11 +28,5 @@ returns-2 c =
 pub read-spec : {M : Type 1} → statement M
 read-spec =
     tie.close
-    (tie.spec
-    wrapping-sub-u32-requires
-    cast-r
-    mul-result
-    shared-slice-copy-out-result
-    returns
-    other-value-requires
-    returns-2)
+    (tie.spec (λ c κs. search needs) (λ c. search needs) (λ c. search needs) (λ c. search needs) returns
+    (λ c κs. search needs) returns-2)

@@ -8,15 +8,6 @@ use Rattle.operands.proofs.OperandLaws.{register-iar, register-ircr, re
 use Rattle.operands.proofs.special_value.Statement.{statement}
 use Rattle.operands.proofs.special_value.Tie as tie
 
-cast-result : tie.Need-cast-result
-cast-result c = search needs
-
-cast-result-2 : tie.Need-cast-result-2
-cast-result-2 c = search needs
-
-cast-result-3 : tie.Need-cast-result-3
-cast-result-3 c = search needs
-
 sub-result : tie.Need-sub-result
 sub-result c = lowered-fits (c .before .before .args .at .top) (c .before .before .pre .top)
 
@@ -41,12 +32,5 @@ returns-4 c = let no = c .match .rest in sym (register-general _ _ (no .0 .0 .1)
 pub special-value-spec : {M : Type 1} → statement M
 special-value-spec =
     tie.close
-    (tie.spec
-    cast-result
-    cast-result-2
-    cast-result-3
-    sub-result
-    returns
-    returns-2
-    returns-3
+    (tie.spec (λ c. search needs) (λ c. search needs) (λ c. search needs) sub-result returns returns-2 returns-3
     returns-4)
