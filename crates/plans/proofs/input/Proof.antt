@@ -10,46 +10,13 @@ use Rattle.plans.proofs.PlanLaws.{input-none, input-some}
 use Rattle.plans.proofs.input.Statement.{statement}
 use Rattle.plans.proofs.input.Tie as tie
 
-next-token-requires : tie.Need-next-token-requires
-next-token-requires c κs = search needs
-
-fail-requires : tie.Need-fail-requires
-fail-requires c κs = search needs
-
 returns : tie.Need-returns
 returns c =
     let a = c .before .before .before .before .args in
     c .fail .ensures ∙ input-none (a .w) (a .m) (a .at) (a .bytes .now) _ _ (c .before .before .next-token .ensures) (c .before .if1 .taken)
 
-sub-read-number : tie.Need-sub-read-number
-sub-read-number c = search needs
-
-part-read-number-start : tie.Need-part-read-number-start
-part-read-number-start c = search needs
-
-part-read-number-end : tie.Need-part-read-number-end
-part-read-number-end c = search needs
-
 read-number-requires : tie.Need-read-number-requires
 read-number-requires c κs = let l = c .before .before .before .before .pre .0 in (one l, at-most l)
-
-enum-told : tie.Need-enum-told
-enum-told c = search needs
-
-fail-requires-2 : tie.Need-fail-requires-2
-fail-requires-2 c κs = search needs
-
-enum-told-2 : tie.Need-enum-told-2
-enum-told-2 c = search needs
-
-fail-requires-3 : tie.Need-fail-requires-3
-fail-requires-3 c κs = search needs
-
-enum-known-reading : tie.Need-enum-known-reading
-enum-known-reading c = search needs
-
-put-requires : tie.Need-put-requires
-put-requires c κs = search needs
 
 returns-2 : tie.Need-returns-2
 returns-2 c =
@@ -83,20 +50,6 @@ returns-4 c =
 pub input-spec : {M : Type 1} → statement M
 input-spec =
     tie.close
-    (tie.spec
-    next-token-requires
-    fail-requires
-    returns
-    sub-read-number
-    part-read-number-start
-    part-read-number-end
-    read-number-requires
-    enum-told
-    fail-requires-2
-    enum-told-2
-    fail-requires-3
-    enum-known-reading
-    put-requires
-    returns-2
-    returns-3
-    returns-4)
+    (tie.spec (λ c κs. search needs) (λ c κs. search needs) returns (λ c. search needs) (λ c. search needs)
+    (λ c. search needs) read-number-requires (λ c. search needs) (λ c κs. search needs) (λ c. search needs)
+    (λ c κs. search needs) (λ c. search needs) (λ c κs. search needs) returns-2 returns-3 returns-4)

@@ -7,9 +7,6 @@ use Rattle.plans.proofs.PlanLaws.{cast-target, jump-negative, jump-beyo
 use Rattle.plans.proofs.jump.Statement.{statement}
 use Rattle.plans.proofs.jump.Tie as tie
 
-fail-requires : tie.Need-fail-requires
-fail-requires c κs = search needs
-
 returns : tie.Need-returns
 returns c =
     let a = c .before .before .args in
@@ -18,18 +15,12 @@ returns c =
 cast-iar : tie.Need-cast-iar
 cast-iar c = rw (toZ-ofZ (c .before .fits .target)) (cast-target (c .before .args .target) (rw (toZ-ofZ (c .before .fits .target)) at (c .if1 .left)) (c .before .fits .target))
 
-fail-requires-2 : tie.Need-fail-requires-2
-fail-requires-2 c κs = search needs
-
 returns-2 : tie.Need-returns-2
 returns-2 c =
     let s = c .before .before .before in
     let f = s .fits .target in
     let l = rw (toZ-ofZ f) at (c .before .if2 .taken) in
     c .fail2 .ensures ∙ jump-beyond (s .args .t) (s .args .target) (s .args .at) (rw (toZ-ofZ f) at (c .before .before .if1 .left)) (omega arith)
-
-cast-t6 : tie.Need-cast-t6
-cast-t6 c = search needs
 
 returns-3 : tie.Need-returns-3
 returns-3 c =
@@ -40,4 +31,5 @@ returns-3 c =
 
 pub jump-spec : {M : Type 1} → statement M
 jump-spec =
-    tie.close (tie.spec fail-requires returns cast-iar fail-requires-2 returns-2 cast-t6 returns-3)
+    tie.close
+    (tie.spec (λ c κs. search needs) returns cast-iar (λ c κs. search needs) returns-2 (λ c. search needs) returns-3)

@@ -7,12 +7,6 @@ use Rattle.model.specs.Parameters.{isBoolean}
 use Rattle.plans.proofs.jump_boolean.Statement.{statement}
 use Rattle.plans.proofs.jump_boolean.Tie as tie
 
-is-boolean-requires : tie.Need-is-boolean-requires
-is-boolean-requires c κs = search needs
-
-jump-when-requires : tie.Need-jump-when-requires
-jump-when-requires c κs = search needs
-
 returns : tie.Need-returns
 returns c =
     let s = c .before .before .before in
@@ -20,9 +14,6 @@ returns c =
     let g = s .fits .target in
     let h : isBoolean (s .args .value) ≡ true = simp toZ-ofZ at (sym (c .before .before .is-boolean .ensures) ∙ c .before .if1 .taken) in
     c .jump-when .ensures ∙ rw (toZ-ofZ (s .fits .target), h)
-
-fail-requires : tie.Need-fail-requires
-fail-requires c κs = search needs
 
 returns-2 : tie.Need-returns-2
 returns-2 c =
@@ -34,4 +25,5 @@ returns-2 c =
 
 pub jump-boolean-spec : {M : Type 1} → statement M
 jump-boolean-spec =
-    tie.close (tie.spec is-boolean-requires jump-when-requires returns fail-requires returns-2)
+    tie.close
+    (tie.spec (λ c κs. search needs) (λ c κs. search needs) returns (λ c κs. search needs) returns-2)

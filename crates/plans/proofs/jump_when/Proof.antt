@@ -5,17 +5,11 @@ use mir.Facts.{toZ-ofZ}
 use Rattle.plans.proofs.jump_when.Statement.{statement}
 use Rattle.plans.proofs.jump_when.Tie as tie
 
-jump-requires : tie.Need-jump-requires
-jump-requires c κs = search needs
-
 returns : tie.Need-returns
 returns c = c .jump .ensures ∙ rw (toZ-ofZ (c .before .before .fits .target), c .before .if1 .taken)
-
-keep-requires : tie.Need-keep-requires
-keep-requires c κs = search needs
 
 returns-2 : tie.Need-returns-2
 returns-2 c = c .keep .ensures ∙ rw (c .before .if1 .left)
 
 pub jump-when-spec : {M : Type 1} → statement M
-jump-when-spec = tie.close (tie.spec jump-requires returns keep-requires returns-2)
+jump-when-spec = tie.close (tie.spec (λ c κs. search needs) returns (λ c κs. search needs) returns-2)

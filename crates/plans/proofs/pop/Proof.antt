@@ -11,25 +11,10 @@ use Rattle.plans.proofs.PlanLaws.{pop-empty, pop-value}
 use Rattle.plans.proofs.pop.Statement.{statement}
 use Rattle.plans.proofs.pop.Tie as tie
 
-fail-requires : tie.Need-fail-requires
-fail-requires c κs = search needs
-
 returns : tie.Need-returns
 returns c =
     let a = c .before .before .args in
     c .fail .ensures ∙ pop-empty (a .w) (a .b) (a .at) (a .cells .now) (c .before .if1 .taken)
-
-sub-head : tie.Need-sub-head
-sub-head c = search needs
-
-mul-put : tie.Need-mul-put
-mul-put c = search needs
-
-shared-slice-copy-out-put : tie.Need-shared-slice-copy-out-put
-shared-slice-copy-out-put c = search needs
-
-put-requires : tie.Need-put-requires
-put-requires c κs = search needs
 
 returns-2 : tie.Need-returns-2
 returns-2 c =
@@ -40,11 +25,5 @@ returns-2 c =
 pub pop-spec : {M : Type 1} → statement M
 pop-spec =
     tie.close
-    (tie.spec
-    fail-requires
-    returns
-    sub-head
-    mul-put
-    shared-slice-copy-out-put
-    put-requires
-    returns-2)
+    (tie.spec (λ c κs. search needs) returns (λ c. search needs) (λ c. search needs) (λ c. search needs)
+    (λ c κs. search needs) returns-2)

@@ -5,12 +5,9 @@ use Rattle.plans.specs.Plans.{writtenPlan}
 use Rattle.plans.proofs.put.Statement.{statement}
 use Rattle.plans.proofs.put.Tie as tie
 
-add-t4 : tie.Need-add-t4
-add-t4 c = search needs
-
 returns : tie.Need-returns
 unfolding writtenPlan
 returns c = rw (toZ-ofZ (c .before .fits .value))
 
 pub put-spec : {M : Type 1} → statement M
-put-spec = tie.close (tie.spec add-t4 returns)
+put-spec = tie.close (tie.spec (λ c. search needs) returns)

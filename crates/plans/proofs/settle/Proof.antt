@@ -7,9 +7,6 @@ use Rattle.plans.specs.Plans.{writtenPlan}
 use Rattle.plans.proofs.settle.Statement.{statement}
 use Rattle.plans.proofs.settle.Tie as tie
 
-put-requires : tie.Need-put-requires
-put-requires c κs = search needs
-
 returns : tie.Need-returns
 unfolding writtenPlan
 returns c =
@@ -17,4 +14,4 @@ returns c =
     rw (c .before .put .ensures, toZ-ofZ f)
 
 pub settle-spec : {M : Type 1} → statement M
-settle-spec = tie.close (tie.spec put-requires returns)
+settle-spec = tie.close (tie.spec (λ c κs. search needs) returns)

@@ -9,14 +9,8 @@ use mir.Val.{SFits}
 use Rattle.plans.proofs.skip.Statement.{statement}
 use Rattle.plans.proofs.skip.Tie as tie
 
-cast-jump : tie.Need-cast-jump
-cast-jump c = search needs
-
 add-jump : tie.Need-add-jump
 add-jump c = rw (toZ-pos w32 {n = c .before .args .at .iar} (omega (arith, c .before .pre))) (record { sfits = omega (arith, c .before .pre) })
-
-jump-requires : tie.Need-jump-requires
-jump-requires c κs = search needs
 
 returns : tie.Need-returns
 returns c =
@@ -24,4 +18,4 @@ returns c =
     rw (toZ-ofZ (add-jump (c .before)), toZ-pos w32 {n = s .args .at .iar} (omega (arith, s .pre))) at (c .jump .ensures)
 
 pub skip-spec : {M : Type 1} → statement M
-skip-spec = tie.close (tie.spec cast-jump add-jump jump-requires returns)
+skip-spec = tie.close (tie.spec (λ c. search needs) add-jump (λ c κs. search needs) returns)
