@@ -19,15 +19,6 @@ bound c = c .shared-slice-known3 .given (c .before .price-place .result) .fits
 price : (c : tie.After-shared-slice-known3) → getD (now (c .before .before .before .before .args .prices)) (c .before .price-place .result) 0 ≡ priceOf (c .before .before .before .before .args .i .number) (directs (cellFrom (c .before .before .before .before .args .i)))
 price c = rw (c .before .before .before .before .pre .0) (c .before .price-place .ensures .0)
 
-sub-at : tie.Need-sub-at
-sub-at c = search needs
-
-cast-at : tie.Need-cast-at
-cast-at c = search needs
-
-mul-result : tie.Need-mul-result
-mul-result c = search needs
-
 shared-slice-read-result : tie.Need-shared-slice-read-result
 shared-slice-read-result c =
     let start = c .before .before .before in
@@ -47,9 +38,6 @@ price-place-requires c κs =
     let cell = cellFrom (start .args .i) in
     ((is-number (start .args .p) cell (start .pre .1) .0, c .if1 .left), directs-priced (start .args .p) cell (start .pre .1))
 
-mul-price : tie.Need-mul-price
-mul-price c = search needs
-
 shared-slice-read-price : tie.Need-shared-slice-read-price
 shared-slice-read-price c = rw (c .before .before .before .before .pre .0, prices-length) (c .before .price-place .ensures .1)
 
@@ -61,9 +49,6 @@ returns-2 c =
     let start = c .before .before .before .before .before in
     cost-single (start .args .p) (cellFrom (start .args .i)) (start .pre .1) (price (c .before)) (c .if2 .taken)
 
-cast-result-2 : tie.Need-cast-result-2
-cast-result-2 c = search needs
-
 mul-result-2 : tie.Need-mul-result-2
 mul-result-2 c = product-fits (bound (c .before .before .before)) (omega (arith, c .struct-known .given))
 
@@ -72,9 +57,6 @@ returns-3 c =
     let start = c .before .before .before .before .before .before .before in
     cost-multiplied (start .args .p) (cellFrom (start .args .i)) (start .pre .1) (price (c .before .before .before))
     (times-registers (start .args .p) (start .args .i .number) (c .before .before .if2 .left) (c .before .if3 .taken))
-
-cast-result-3 : tie.Need-cast-result-3
-cast-result-3 c = search needs
 
 mul-result-3 : tie.Need-mul-result-3
 mul-result-3 c = product-fits (bound (c .before .before .before)) (omega (arith, c .struct-known2 .given))
@@ -88,21 +70,6 @@ returns-4 c =
 pub cost-spec : {M : Type 1} → statement M
 cost-spec =
     tie.close
-    (tie.spec
-    sub-at
-    cast-at
-    mul-result
-    shared-slice-read-result
-    cast-result
-    returns
-    price-place-requires
-    mul-price
-    shared-slice-read-price
-    cast-price
-    returns-2
-    cast-result-2
-    mul-result-2
-    returns-3
-    cast-result-3
-    mul-result-3
-    returns-4)
+    (tie.spec (λ c. search needs) (λ c. search needs) (λ c. search needs) shared-slice-read-result cast-result
+    returns price-place-requires (λ c. search needs) shared-slice-read-price cast-price returns-2
+    (λ c. search needs) mul-result-2 returns-3 (λ c. search needs) mul-result-3 returns-4)

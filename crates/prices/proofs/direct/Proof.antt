@@ -5,9 +5,6 @@ use borrow.Author.Needs.{needs}
 use Rattle.prices.proofs.direct.Statement.{statement}
 use Rattle.prices.proofs.direct.Tie as tie
 
-kind-requires : tie.Need-kind-requires
-kind-requires c κs = search needs
-
 returns : tie.Need-returns
 returns c = rw (eq-eqb _ 2 (sym (c .before .kind .ensures) ∙ c .if1 .taken))
 
@@ -15,4 +12,4 @@ returns-2 : tie.Need-returns-2
 returns-2 c = rw (ne-eqb _ 2 (λ e. c .if1 .left (c .before .kind .ensures ∙ e)))
 
 pub direct-spec : {M : Type 1} → statement M
-direct-spec = tie.close (tie.spec kind-requires returns returns-2)
+direct-spec = tie.close (tie.spec (λ c κs. search needs) returns returns-2)

@@ -6,19 +6,10 @@ use borrow.Author.Needs.{needs}
 use Rattle.prices.proofs.direct_arguments.Statement.{statement}
 use Rattle.prices.proofs.direct_arguments.Tie as tie
 
-direct-requires : tie.Need-direct-requires
-direct-requires c κs = search needs
-
-direct-requires-2 : tie.Need-direct-requires-2
-direct-requires-2 c κs = search needs
-
 add-result : tie.Need-add-result
 add-result c =
     let i = c .before .before .args .i in
     omega (arith, c .before .direct .ensures, c .direct2 .ensures, direct-small (i .first), direct-small (i .second))
-
-direct-requires-3 : tie.Need-direct-requires-3
-direct-requires-3 c κs = search needs
 
 add-result-2 : tie.Need-add-result-2
 add-result-2 c =
@@ -32,4 +23,4 @@ returns c = rw (c .before .before .direct .ensures, c .before .direct2 .ensures,
 pub direct-arguments-spec : {M : Type 1} → statement M
 direct-arguments-spec =
     tie.close
-    (tie.spec direct-requires direct-requires-2 add-result direct-requires-3 add-result-2 returns)
+    (tie.spec (λ c κs. search needs) (λ c κs. search needs) add-result (λ c κs. search needs) add-result-2 returns)

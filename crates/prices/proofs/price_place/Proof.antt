@@ -9,25 +9,10 @@ use borrow.Author.Needs.{needs}
 use Rattle.prices.proofs.price_place.Statement.{statement}
 use Rattle.prices.proofs.price_place.Tie as tie
 
-direct-arguments-requires : tie.Need-direct-arguments-requires
-direct-arguments-requires c κs = search needs
-
-sub-result : tie.Need-sub-result
-sub-result c = search needs
-
-cast-result : tie.Need-cast-result
-cast-result c = search needs
-
 returns : tie.Need-returns
 returns c =
     let start = c .before .before .before in
     (rw (sym (c .before .before .direct-arguments .ensures) ∙ c .before .if1 .taken) (price-none (start .args .i .number) (start .pre .0 .0) (omega arith)), omega arith)
-
-add-result : tie.Need-add-result
-add-result c = search needs
-
-cast-result-2 : tie.Need-cast-result-2
-cast-result-2 c = search needs
 
 returns-2 : tie.Need-returns-2
 returns-2 c =
@@ -45,12 +30,5 @@ returns-3 c =
 pub price-place-spec : {M : Type 1} → statement M
 price-place-spec =
     tie.close
-    (tie.spec
-    direct-arguments-requires
-    sub-result
-    cast-result
-    returns
-    add-result
-    cast-result-2
-    returns-2
-    returns-3)
+    (tie.spec (λ c κs. search needs) (λ c. search needs) (λ c. search needs) returns (λ c. search needs)
+    (λ c. search needs) returns-2 returns-3)

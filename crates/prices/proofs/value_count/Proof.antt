@@ -12,12 +12,6 @@ returns c =
     let l = c .if1 .taken in
     sym (values-none (c .before .args .p) (c .before .args .number) (λ e. omega arith) (λ e. omega arith) (λ e. omega arith))
 
-cast-result : tie.Need-cast-result
-cast-result c = search needs
-
-cast-result-2 : tie.Need-cast-result-2
-cast-result-2 c = search needs
-
 returns-2 : tie.Need-returns-2
 unfolding rowOf
 returns-2 c = rw (c .before .match .keys1)
@@ -37,4 +31,5 @@ returns-5 c =
 
 pub value-count-spec : {M : Type 1} → statement M
 value-count-spec =
-    tie.close (tie.spec returns cast-result cast-result-2 returns-2 returns-3 returns-4 returns-5)
+    tie.close
+    (tie.spec returns (λ c. search needs) (λ c. search needs) returns-2 returns-3 returns-4 returns-5)
