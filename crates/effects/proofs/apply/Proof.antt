@@ -9,15 +9,6 @@ use Rattle.effects.proofs.WriteLaws.{no-values}
 use Rattle.effects.proofs.apply.Statement.{statement}
 use Rattle.effects.proofs.apply.Tie as tie
 
-write-requires : tie.Need-write-requires
-write-requires c κs = search needs
-
-same-length : tie.Need-same-length
-same-length c = search needs
-
-same-length-2 : tie.Need-same-length-2
-same-length-2 c = search needs
-
 returns : tie.Need-returns
 returns c =
     let w = c .before .before in
@@ -30,18 +21,6 @@ returns c =
 returns-2 : tie.Need-returns-2
 returns-2 c = rw (c .if2 .taken) (refl, (refl, refl))
 
-apply-other-requires : tie.Need-apply-other-requires
-apply-other-requires c κs = search needs
-
-same-length-3 : tie.Need-same-length-3
-same-length-3 c = search needs
-
-same-length-4 : tie.Need-same-length-4
-same-length-4 c = search needs
-
-same-length-5 : tie.Need-same-length-5
-same-length-5 c = search needs
-
 returns-3 : tie.Need-returns-3
 returns-3 c =
     let w = c .before .before .before in
@@ -53,14 +32,5 @@ returns-3 c =
 pub apply-spec : {M : Type 1} → statement M
 apply-spec =
     tie.close
-    (tie.spec
-    write-requires
-    same-length
-    same-length-2
-    returns
-    returns-2
-    apply-other-requires
-    same-length-3
-    same-length-4
-    same-length-5
-    returns-3)
+    (tie.spec (λ c κs. search needs) (λ c. search needs) (λ c. search needs) returns returns-2
+    (λ c κs. search needs) (λ c. search needs) (λ c. search needs) (λ c. search needs) returns-3)

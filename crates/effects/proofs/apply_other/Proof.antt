@@ -7,29 +7,11 @@ use Rattle.effects.proofs.WriteLaws.{nothing}
 use Rattle.effects.proofs.apply_other.Statement.{statement}
 use Rattle.effects.proofs.apply_other.Tie as tie
 
-clear-requires : tie.Need-clear-requires
-clear-requires c κs = search needs
-
-same-length : tie.Need-same-length
-same-length c = search needs
-
 returns : tie.Need-returns
 returns c = rw (c .before .before .before .if1 .taken) (c .before .clear .ensures, (refl, refl))
 
-clear-requires-2 : tie.Need-clear-requires-2
-clear-requires-2 c κs = search needs
-
-same-length-2 : tie.Need-same-length-2
-same-length-2 c = search needs
-
 returns-2 : tie.Need-returns-2
 returns-2 c = rw (c .before .before .before .if2 .taken) (refl, (c .before .clear2 .ensures, refl))
-
-same-length-3 : tie.Need-same-length-3
-same-length-3 c = search needs
-
-same-length-4 : tie.Need-same-length-4
-same-length-4 c = search needs
 
 returns-3 : tie.Need-returns-3
 returns-3 c = rw (c .before .before .before .before .if3 .taken) (refl, (refl, c .before .dump .ensures))
@@ -40,20 +22,11 @@ dump-requires c κs = rw (c .before .before .if3 .taken) at (c .before .before .
 dump-requires-2 : tie.Need-dump-requires-2
 dump-requires-2 c κs = rw (c .before .before .if4 .taken) at (c .before .before .before .before .before .before .pre .1)
 
-same-length-5 : tie.Need-same-length-5
-same-length-5 c = search needs
-
-same-length-6 : tie.Need-same-length-6
-same-length-6 c = search needs
-
 returns-4 : tie.Need-returns-4
 returns-4 c = rw (c .before .before .before .before .if4 .taken) (refl, (refl, c .before .dump2 .ensures))
 
 put-requires : tie.Need-put-requires
 put-requires c κs = rw (c .before .if5 .taken) at (c .before .before .before .before .before .before .pre .1)
-
-same-length-7 : tie.Need-same-length-7
-same-length-7 c = search needs
 
 returns-5 : tie.Need-returns-5
 returns-5 c =
@@ -68,22 +41,6 @@ returns-6 c =
 pub apply-other-spec : {M : Type 1} → statement M
 apply-other-spec =
     tie.close
-    (tie.spec
-    clear-requires
-    same-length
-    returns
-    clear-requires-2
-    same-length-2
-    returns-2
-    dump-requires
-    same-length-3
-    same-length-4
-    returns-3
-    dump-requires-2
-    same-length-5
-    same-length-6
-    returns-4
-    put-requires
-    same-length-7
-    returns-5
-    returns-6)
+    (tie.spec (λ c κs. search needs) (λ c. search needs) returns (λ c κs. search needs) (λ c. search needs)
+    returns-2 dump-requires (λ c. search needs) (λ c. search needs) returns-3 dump-requires-2 (λ c. search needs)
+    (λ c. search needs) returns-4 put-requires (λ c. search needs) returns-5 returns-6)

@@ -6,14 +6,8 @@ use Rattle.effects.proofs.CopyLaws.{put-first}
 use Rattle.effects.proofs.put.Statement.{statement}
 use Rattle.effects.proofs.put.Tie as tie
 
-same-length : tie.Need-same-length
-same-length c = search needs
-
 returns : tie.Need-returns
 returns c = rw (toZ-ofZ (c .fits .value)) (put-first (c .args .value) (now (c .args .out)) (c .pre))
 
-slice-set-from-value : tie.Need-slice-set-from-value
-slice-set-from-value c = search needs
-
 pub put-spec : {M : Type 1} → statement M
-put-spec = tie.close (tie.spec slice-set-from-value same-length returns)
+put-spec = tie.close (tie.spec (λ c. search needs) (λ c. search needs) returns)

@@ -7,41 +7,11 @@ use Rattle.effects.proofs.WriteLaws.{write-register, write-cell, write-
 use Rattle.effects.proofs.write.Statement.{statement}
 use Rattle.effects.proofs.write.Tie as tie
 
-wrapping-sub-u32-requires : tie.Need-wrapping-sub-u32-requires
-wrapping-sub-u32-requires c κs = search needs
-
-cast-register : tie.Need-cast-register
-cast-register c = search needs
-
-mul-value : tie.Need-mul-value
-mul-value c = search needs
-
-slice-set-from-value : tie.Need-slice-set-from-value
-slice-set-from-value c = search needs
-
-same-length : tie.Need-same-length
-same-length c = search needs
-
 returns : tie.Need-returns
 returns c =
     let start = c .before .before in
     rw (toZ-ofZ (start .fits .value))
     (write-register (start .args .value) (now (start .args .registers)) (now (start .args .cells)) (start .pre .0) (c .before .wrapping-sub-u32 .result) (c .before .wrapping-sub-u32 .ensures) (c .if1 .taken) (start .pre .1 .register-count))
-
-wrapping-sub-u32-requires-2 : tie.Need-wrapping-sub-u32-requires-2
-wrapping-sub-u32-requires-2 c κs = search needs
-
-cast-cell : tie.Need-cast-cell
-cast-cell c = search needs
-
-mul-value-2 : tie.Need-mul-value-2
-mul-value-2 c = search needs
-
-slice-set-from-value-2 : tie.Need-slice-set-from-value-2
-slice-set-from-value-2 c = search needs
-
-same-length-2 : tie.Need-same-length-2
-same-length-2 c = search needs
 
 returns-2 : tie.Need-returns-2
 returns-2 c =
@@ -59,17 +29,6 @@ returns-3 c =
 pub write-spec : {M : Type 1} → statement M
 write-spec =
     tie.close
-    (tie.spec
-    wrapping-sub-u32-requires
-    cast-register
-    mul-value
-    slice-set-from-value
-    same-length
-    returns
-    wrapping-sub-u32-requires-2
-    cast-cell
-    mul-value-2
-    slice-set-from-value-2
-    same-length-2
-    returns-2
-    returns-3)
+    (tie.spec (λ c κs. search needs) (λ c. search needs) (λ c. search needs) (λ c. search needs) (λ c. search needs)
+    returns (λ c κs. search needs) (λ c. search needs) (λ c. search needs) (λ c. search needs) (λ c. search needs)
+    returns-2 returns-3)
