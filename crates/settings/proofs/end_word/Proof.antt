@@ -9,9 +9,6 @@ use Rattle.settings.proofs.end_word.Tie as tie
 returns : tie.Need-returns
 returns c = sym (ended-none _ (c .if1 .taken))
 
-add-count : tie.Need-add-count
-add-count c = search needs
-
 returns-2 : tie.Need-returns-2
 returns-2 c = sym (ended-word _ (c .before .before .before .before .if1 .left) ∙ simp (lt-ltb _ _ (c .before .if2 .taken)))
 
@@ -19,4 +16,4 @@ returns-3 : tie.Need-returns-3
 returns-3 c = sym (ended-word _ (c .before .before .before .if1 .left) ∙ simp (le-ltb _ _ (c .if2 .left)))
 
 pub end-word-spec : {M : Type 1} → statement M
-end-word-spec = tie.close (tie.spec returns add-count returns-2 returns-3)
+end-word-spec = tie.close (tie.spec returns (λ c. search needs) returns-2 returns-3)

@@ -5,9 +5,6 @@ use borrow.Author.Tests.{lt-ltb, le-ltb}
 use Rattle.settings.proofs.extends_word.Statement.{statement}
 use Rattle.settings.proofs.extends_word.Tie as tie
 
-is-digit-requires : tie.Need-is-digit-requires
-is-digit-requires c κs = search needs
-
 returns : tie.Need-returns
 returns c =
     let d = c .before .before .before in
@@ -22,4 +19,4 @@ returns-3 : tie.Need-returns-3
 returns-3 c = c .if1 .left ∙ sym (simp (sym (c .before .is-digit .ensures) ∙ c .if1 .left))
 
 pub extends-word-spec : {M : Type 1} → statement M
-extends-word-spec = tie.close (tie.spec is-digit-requires returns returns-2 returns-3)
+extends-word-spec = tie.close (tie.spec (λ c κs. search needs) returns returns-2 returns-3)

@@ -6,17 +6,8 @@ use Rattle.settings.proofs.ScanLaws.{Room, room, scanned-blank, scanned
 use Rattle.settings.proofs.scan_byte.Statement.{statement}
 use Rattle.settings.proofs.scan_byte.Tie as tie
 
-is-blank-requires : tie.Need-is-blank-requires
-is-blank-requires c κs = search needs
-
-end-word-requires : tie.Need-end-word-requires
-end-word-requires c κs = search needs
-
 returns : tie.Need-returns
 returns c = c .end-word .ensures ∙ sym (scanned-blank _ _ (sym (c .before .before .is-blank .ensures) ∙ c .before .if1 .taken))
-
-extends-word-requires : tie.Need-extends-word-requires
-extends-word-requires c κs = search needs
 
 -- The byte that extends a word has room there.
 has-room : (c : tie.Then2) → Room (c .before .before .before .before .before .args .scan) (c .before .before .before .before .before .args .b)
@@ -30,9 +21,6 @@ mul-t7 c = omega (arith, has-room (c .before .before) .value)
 
 sub-t8 : tie.Need-sub-t8
 sub-t8 c = has-room (c .before .before) .low
-
-cast-t9 : tie.Need-cast-t9
-cast-t9 c = search needs
 
 add-t10 : tie.Need-add-t10
 add-t10 c = let r = has-room (c .before .before) in omega (arith, r .value, r .high)
@@ -53,15 +41,5 @@ returns-3 c =
 pub scan-byte-spec : {M : Type 1} → statement M
 scan-byte-spec =
     tie.close
-    (tie.spec
-    is-blank-requires
-    end-word-requires
-    returns
-    extends-word-requires
-    add-t6
-    mul-t7
-    sub-t8
-    cast-t9
-    add-t10
-    returns-2
-    returns-3)
+    (tie.spec (λ c κs. search needs) (λ c κs. search needs) returns (λ c κs. search needs) add-t6 mul-t7 sub-t8
+    (λ c. search needs) add-t10 returns-2 returns-3)

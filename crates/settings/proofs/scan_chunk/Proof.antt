@@ -18,18 +18,6 @@ abbrev μ-loop : tie.MeasureT-loop
 loop-holds : tie.Need-loop-holds Inv-loop μ-loop
 loop-holds c = (search needs, refl)
 
-shared-slice-read-scan-byte : tie.Need-shared-slice-read-scan-byte Inv-loop μ-loop
-shared-slice-read-scan-byte c = search needs
-
-scan-byte-requires : tie.Need-scan-byte-requires Inv-loop μ-loop
-scan-byte-requires c κs = search needs
-
-add-i : tie.Need-add-i Inv-loop μ-loop
-add-i c = search needs
-
-loop-less : tie.Need-loop-less Inv-loop μ-loop
-loop-less c = search needs
-
 loop-again : tie.Need-loop-again Inv-loop μ-loop
 loop-again c =
     let at = c .before .before in
@@ -41,13 +29,5 @@ returns c = scan-joined (sym (scanned-end _ _ _ (c .loop-test .left)) ∙ c .bef
 pub scan-chunk-spec : {M : Type 1} → statement M
 scan-chunk-spec =
     tie.close
-    (tie.spec
-    Inv-loop
-    μ-loop
-    loop-holds
-    shared-slice-read-scan-byte
-    scan-byte-requires
-    add-i
-    loop-less
-    loop-again
-    returns)
+    (tie.spec Inv-loop μ-loop loop-holds (λ c. search needs) (λ c κs. search needs) (λ c. search needs)
+    (λ c. search needs) loop-again returns)

@@ -5,9 +5,6 @@ use Rattle.settings.proofs.Chunks.{settled-meaning}
 use Rattle.settings.proofs.settle.Statement.{statement}
 use Rattle.settings.proofs.settle.Tie as tie
 
-end-word-requires : tie.Need-end-word-requires
-end-word-requires c κs = search needs
-
 returns : tie.Need-returns
 returns c = settled-meaning (settled-five _ (c .before .before .before .end-word .ensures) (c .before .if1 .taken))
 
@@ -15,4 +12,4 @@ returns-2 : tie.Need-returns-2
 returns-2 c = settled-meaning (settled-other _ (c .before .before .end-word .ensures) (c .if1 .left))
 
 pub settle-spec : {M : Type 1} → statement M
-settle-spec = tie.close (tie.spec end-word-requires returns returns-2)
+settle-spec = tie.close (tie.spec (λ c κs. search needs) returns returns-2)

@@ -5,12 +5,6 @@ use Rattle.settings.proofs.IntakeLaws.{known, unknown}
 use Rattle.settings.proofs.intakes.go_on.Statement.{statement}
 use Rattle.settings.proofs.intakes.go_on.Tie as tie
 
-sub-calls : tie.Need-sub-calls
-sub-calls c = search needs
-
-known-wrong-requires : tie.Need-known-wrong-requires
-known-wrong-requires c κs = search needs
-
 returns : tie.Need-returns
 returns c = let start = c .before .before .before in known (start .args .intake) _ (sym (c .before .known-wrong .ensures) ∙ c .if1 .taken)
 
@@ -18,4 +12,4 @@ returns-2 : tie.Need-returns-2
 returns-2 c = let start = c .before .before .before in unknown (start .args .intake) _ (sym (c .before .known-wrong .ensures) ∙ c .if1 .left)
 
 pub go-on-spec : {M : Type 1} → statement M
-go-on-spec = tie.close (tie.spec sub-calls known-wrong-requires returns returns-2)
+go-on-spec = tie.close (tie.spec (λ c. search needs) (λ c κs. search needs) returns returns-2)

@@ -10,17 +10,11 @@ use Rattle.settings.proofs.IntakeLaws.{taken-failed, taken-end, taken-p
 use Rattle.settings.proofs.intakes.take_piece.Statement.{statement}
 use Rattle.settings.proofs.intakes.take_piece.Tie as tie
 
-unread-requires : tie.Need-unread-requires
-unread-requires c κs = search needs
-
 returns : tie.Need-returns
 returns c =
     let start = c .before .before .before in
     let empty = ap {B = Intake} (λ (s : Scan). record { scan = s; calls = 0 }) (c .unread .ensures) in
     (empty ∙ taken-failed (start .args .intake) (start .args .read) (now (start .args .bytes)) (c .before .if1 .taken), start .pre .1)
-
-at-end-requires : tie.Need-at-end-requires
-at-end-requires c κs = search needs
 
 returns-2 : tie.Need-returns-2
 returns-2 c =
@@ -30,12 +24,6 @@ returns-2 c =
 
 slice-aggregate-scan-chunk : tie.Need-slice-aggregate-scan-chunk
 slice-aggregate-scan-chunk c = sym (length-take-le _ _ (c .before .before .before .before .before .before .pre .0))
-
-scan-chunk-requires : tie.Need-scan-chunk-requires
-scan-chunk-requires c κs = search needs
-
-go-on-requires : tie.Need-go-on-requires
-go-on-requires c κs = search needs
 
 returns-3 : tie.Need-returns-3
 returns-3 c =
@@ -48,12 +36,5 @@ returns-3 c =
 pub take-piece-spec : {M : Type 1} → statement M
 take-piece-spec =
     tie.close
-    (tie.spec
-    unread-requires
-    returns
-    at-end-requires
-    returns-2
-    slice-aggregate-scan-chunk
-    scan-chunk-requires
-    go-on-requires
-    returns-3)
+    (tie.spec (λ c κs. search needs) returns (λ c κs. search needs) returns-2 slice-aggregate-scan-chunk
+    (λ c κs. search needs) (λ c κs. search needs) returns-3)

@@ -7,15 +7,6 @@ use Rattle.settings.proofs.transfers.advance.Tie as tie
 returns : tie.Need-returns
 returns c = moved-none (c .before .args .t) _ (c .before .args .length) (c .if1 .taken)
 
-sub-if2 : tie.Need-sub-if2
-sub-if2 c = search needs
-
-add-t6 : tie.Need-add-t6
-add-t6 c = search needs
-
-sub-t7 : tie.Need-sub-t7
-sub-t7 c = search needs
-
 returns-2 : tie.Need-returns-2
 returns-2 c =
     let start = c .before .before .before .before .before in
@@ -25,4 +16,6 @@ returns-3 : tie.Need-returns-3
 returns-3 c = let start = c .before .before .before in moved-all (start .args .t) (start .args .n) (start .args .length) (c .before .before .if1 .left) (c .if2 .left)
 
 pub advance-spec : {M : Type 1} → statement M
-advance-spec = tie.close (tie.spec returns sub-if2 add-t6 sub-t7 returns-2 returns-3)
+advance-spec =
+    tie.close
+    (tie.spec returns (λ c. search needs) (λ c. search needs) (λ c. search needs) returns-2 returns-3)

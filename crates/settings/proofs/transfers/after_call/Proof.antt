@@ -7,9 +7,6 @@ use Rattle.settings.proofs.TransferLaws.{not-moved, moved, natural}
 use Rattle.settings.proofs.transfers.after_call.Statement.{statement}
 use Rattle.settings.proofs.transfers.after_call.Tie as tie
 
-halt-requires : tie.Need-halt-requires
-halt-requires c κs = search needs
-
 returns : tie.Need-returns
 returns c =
     let start = c .before .before in
@@ -19,9 +16,6 @@ returns c =
 cast-advance : tie.Need-cast-advance
 cast-advance c = (natural (toZ w64 (ofZ w64 (c .before .args .moved))) (c .if1 .left), fits-natAbs {w = w64} {w′ = w64} tt (sfits-toZ (fits-ofZ (c .before .fits .moved))))
 
-advance-requires : tie.Need-advance-requires
-advance-requires c κs = search needs
-
 returns-2 : tie.Need-returns-2
 returns-2 c =
     let start = c .before .before in
@@ -30,5 +24,4 @@ returns-2 c =
     (natural (start .args .moved) (rw same at (c .before .if1 .left))) (rw same at (c .advance .ensures))
 
 pub after-call-spec : {M : Type 1} → statement M
-after-call-spec =
-    tie.close (tie.spec halt-requires returns cast-advance advance-requires returns-2)
+after-call-spec = tie.close (tie.spec (λ c κs. search needs) returns cast-advance (λ c κs. search needs) returns-2)

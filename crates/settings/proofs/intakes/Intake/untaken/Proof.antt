@@ -7,11 +7,8 @@ use Rattle.settings.specs.declared.intakes.Intake.{Intake}
 use Rattle.settings.proofs.intakes.Intake.untaken.Statement.{statement}
 use Rattle.settings.proofs.intakes.Intake.untaken.Tie as tie
 
-unread-requires : tie.Need-unread-requires
-unread-requires c κs = search needs
-
 returns : tie.Need-returns
 returns c = ap (λ (s : Scan). record { scan = s; calls = mostCalls }) (c .unread .ensures)
 
 pub untaken-spec : {M : Type 1} → statement M
-untaken-spec = tie.close (tie.spec unread-requires returns)
+untaken-spec = tie.close (tie.spec (λ c κs. search needs) returns)
