@@ -7,20 +7,13 @@ use Rattle.model.proofs.Decimals.{digits-at-most}
 use Rattle.writer.proofs.decimal.write_magnitude.Statement.{statement}
 use Rattle.writer.proofs.decimal.write_magnitude.Tie as tie
 
-digit-count-requires : tie.Need-digit-count-requires
-digit-count-requires c κs = search needs
-
 write-digits-requires : tie.Need-write-digits-requires
 write-digits-requires c κs =
     let n = c .before .before .before .args .n in
     let e = c .before .digit-count .ensures in
     (e, omega (arith, e, digits-at-most (suc n) n (omega arith) 9 [] (omega arith)))
 
-same-length : tie.Need-same-length
-same-length c = search needs
-
-returns : tie.Need-returns
-returns c = search needs
-
 pub write-magnitude-spec : {M : Type 1} → statement M
-write-magnitude-spec = tie.close (tie.spec digit-count-requires write-digits-requires same-length returns)
+write-magnitude-spec =
+    tie.close
+    (tie.spec (λ c κs. search needs) write-digits-requires (λ c. search needs) (λ c. search needs))

@@ -21,17 +21,11 @@ abbrev μ-loop : tie.MeasureT-loop
 twenty : (n : ℕ) → n < 2 ^ 64 → length (decimal (pos n)) ≤ 20
 twenty n h = digits-at-most (suc n) n (omega arith) 19 [] (omega arith)
 
-loop-holds : tie.Need-loop-holds Inv-loop μ-loop
-loop-holds c = omega arith
-
 add-count : tie.Need-add-count Inv-loop μ-loop
 add-count c =
     record {
       fits = omega (arith, c .before .loop .inv, decimal-some (c .before .loop .left), twenty (c .before .before .args .n) (c .before .before .fits .n .fits));
     }
-
-loop-less : tie.Need-loop-less Inv-loop μ-loop
-loop-less c = omega arith
 
 loop-again : tie.Need-loop-again Inv-loop μ-loop
 loop-again c = omega (arith, c .before .loop .inv, decimal-shorter (c .before .loop .left) (c .loop-test .taken))
@@ -44,4 +38,6 @@ returns c =
     (omega (arith, c .before .loop .inv, one), omega (arith, c .before .loop .inv, one, twenty n (c .before .before .fits .n .fits)))
 
 pub count-digits-spec : {M : Type 1} → statement M
-count-digits-spec = tie.close (tie.spec Inv-loop μ-loop loop-holds add-count loop-less loop-again returns)
+count-digits-spec =
+    tie.close
+    (tie.spec Inv-loop μ-loop (λ c. omega arith) add-count (λ c. omega arith) loop-again returns)

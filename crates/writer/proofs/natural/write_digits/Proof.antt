@@ -19,47 +19,14 @@ abbrev μ-loop : tie.MeasureT-loop
 loop-holds : tie.Need-loop-holds Inv-loop μ-loop
 loop-holds c = (c .pre .1, refl, refl)
 
-cast-out : tie.Need-cast-out Inv-loop μ-loop
-cast-out c = search needs
-
-add-out : tie.Need-add-out Inv-loop μ-loop
-add-out c = search needs
-
-sub-out : tie.Need-sub-out Inv-loop μ-loop
-sub-out c = search needs
-
-slice-write-out : tie.Need-slice-write-out Inv-loop μ-loop
-slice-write-out c = search needs
-
-cast-out-2 : tie.Need-cast-out-2 Inv-loop μ-loop
-cast-out-2 c = search needs
-
-add-out-2 : tie.Need-add-out-2 Inv-loop μ-loop
-add-out-2 c = search needs
-
 slice-write-out-2 : tie.Need-slice-write-out-2 Inv-loop μ-loop
 slice-write-out-2 c = simp length-set (omega (arith, c .loop-test .taken, c .before .loop .inv .0))
-
-loop-less : tie.Need-loop-less Inv-loop μ-loop
-loop-less c = search needs
 
 loop-again : tie.Need-loop-again Inv-loop μ-loop
 loop-again c =
     let at = c .before .loop in
     let pair = write-pair (at .at) (at .left) (at .out) (c .loop-test .taken) (at .inv .0) in
     (simp length-set (omega arith), simp length-set (at .inv .1), at .inv .2 ∙ pair)
-
-cast-out-3 : tie.Need-cast-out-3 Inv-loop μ-loop
-cast-out-3 c = search needs
-
-add-out-3 : tie.Need-add-out-3 Inv-loop μ-loop
-add-out-3 c = search needs
-
-slice-write-out-3 : tie.Need-slice-write-out-3 Inv-loop μ-loop
-slice-write-out-3 c = search needs
-
-same-length : tie.Need-same-length Inv-loop μ-loop
-same-length c = search needs
 
 finished : (at n : ℕ) (out : List ℕ) → at ≡ 0 → lastDigits at n (drop at out) ≡ out
 unfolding lastDigits
@@ -77,9 +44,6 @@ returns c =
     let start = c .before .before .before in
     sym (loop .inv .2 ∙ last-one (loop .at) (loop .left) (loop .out) (c .if1 .taken) (loop .inv .0)) ∙ rw (start .pre .0) (decimal-digits (start .args .n) _)
 
-same-length-2 : tie.Need-same-length-2 Inv-loop μ-loop
-same-length-2 c = search needs
-
 returns-2 : tie.Need-returns-2 Inv-loop μ-loop
 returns-2 c =
     let loop = c .before .before .loop in
@@ -90,23 +54,7 @@ returns-2 c =
 pub write-digits-spec : {M : Type 1} → statement M
 write-digits-spec =
     tie.close
-    (tie.spec
-    Inv-loop
-    μ-loop
-    loop-holds
-    cast-out
-    add-out
-    sub-out
-    slice-write-out
-    cast-out-2
-    add-out-2
-    slice-write-out-2
-    loop-less
-    loop-again
-    cast-out-3
-    add-out-3
-    slice-write-out-3
-    same-length
-    returns
-    same-length-2
+    (tie.spec Inv-loop μ-loop loop-holds (λ c. search needs) (λ c. search needs) (λ c. search needs)
+    (λ c. search needs) (λ c. search needs) (λ c. search needs) slice-write-out-2 (λ c. search needs) loop-again
+    (λ c. search needs) (λ c. search needs) (λ c. search needs) (λ c. search needs) returns (λ c. search needs)
     returns-2)
