@@ -13,20 +13,11 @@ use Rattle.loader.proofs.load.Tie as tie
 fit-of : (e : tie.Else1) → Fit (e .before .before .before .before .args .p)
 fit-of e = sym (e .before .parameter-refusal .ensures) ∙ e .if1 .left
 
-parameter-refusal-requires : tie.Need-parameter-refusal-requires
-parameter-refusal-requires c κs = search needs
-
 returns : tie.Need-returns
 returns c =
     let a = c .before .before .before .before .args in
     answered (a .p) (now (a .text)) (now (a .image))
     (by-parameters (a .p) (now (a .text)) (now (a .image)) (c .before .parameter-refusal .ensures) (c .if1 .taken)) refl
-
-cast-t : tie.Need-cast-t
-cast-t c = search needs
-
-mul-if2 : tie.Need-mul-if2
-mul-if2 c = search needs
 
 returns-2 : tie.Need-returns-2
 returns-2 c =
@@ -47,9 +38,6 @@ limit-of-requires c κs = let l = limits _ (fit-of (c .before .before .before)) 
 load-lines-requires : tie.Need-load-lines-requires
 load-lines-requires c κs = let e = c .before .before in ((fit-of (e .before .before .before), search needs), e .before .if2 .left)
 
-same-length : tie.Need-same-length
-same-length c = search needs
-
 returns-4 : tie.Need-returns-4
 returns-4 c =
     let e = c .before .before .before .before .before in
@@ -64,14 +52,5 @@ returns-4 c =
 pub load-spec : {M : Type 1} → statement M
 load-spec =
     tie.close
-    (tie.spec
-    parameter-refusal-requires
-    returns
-    cast-t
-    mul-if2
-    returns-2
-    returns-3
-    limit-of-requires
-    load-lines-requires
-    same-length
-    returns-4)
+    (tie.spec (λ c κs. search needs) returns (λ c. search needs) (λ c. search needs) returns-2 returns-3
+    limit-of-requires load-lines-requires (λ c. search needs) returns-4)

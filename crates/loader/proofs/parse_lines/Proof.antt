@@ -23,16 +23,10 @@ Inv-loop text p m keys slots forms write image₀ t at₀ i₀ image at i = (len
 abbrev μ-loop : tie.MeasureT-loop
 μ-loop text p m keys slots forms write image₀ t at₀ i₀ image at i = length text - at
 
-cast-t : tie.Need-cast-t Inv-loop μ-loop
-cast-t c = search needs
-
 loop-holds : tie.Need-loop-holds Inv-loop μ-loop
 loop-holds c =
     let s = c .before .before .before .before .before .before in
     (s .pre .1 .1 .0, at-start (s .args .write) (s .args .p) (now (s .args .text)) (now (s .args .image)) (s .pre .1 .1 .1))
-
-next-line-requires : tie.Need-next-line-requires Inv-loop μ-loop
-next-line-requires c κs = search needs
 
 same-length : tie.Need-same-length Inv-loop μ-loop
 same-length c =
@@ -50,24 +44,6 @@ returns c =
     let image = now (s .args .image) in
     let n = e .before .next-line .ensures in
     (sym (too-many write p text image (at .loop .inv .1) n (c .if1 .taken)), held-refused write p text image (at .loop .inv .1) 8 0)
-
-sub-parse-line : tie.Need-sub-parse-line Inv-loop μ-loop
-sub-parse-line c = search needs
-
-part-parse-line-start : tie.Need-part-parse-line-start Inv-loop μ-loop
-part-parse-line-start c = search needs
-
-part-parse-line-end : tie.Need-part-parse-line-end Inv-loop μ-loop
-part-parse-line-end c = search needs
-
-parse-line-requires : tie.Need-parse-line-requires Inv-loop μ-loop
-parse-line-requires c κs = search needs
-
-enum-known-parsed : tie.Need-enum-known-parsed Inv-loop μ-loop
-enum-known-parsed c = search needs
-
-refuse-line-requires : tie.Need-refuse-line-requires Inv-loop μ-loop
-refuse-line-requires c κs = search needs
 
 same-length-2 : tie.Need-same-length-2 Inv-loop μ-loop
 same-length-2 c =
@@ -89,12 +65,6 @@ returns-2 c =
     refused-line write p text image (at .loop .image) (leb (at .loop .i + 1 + left) (p .t)) (c .before .before .parsed .given .0 .0) (at .loop .i)
     (c .refuse-line .ensures) q (held-refused write p text image (at .loop .inv .1))
 
-enum-known-parsed-2 : tie.Need-enum-known-parsed-2 Inv-loop μ-loop
-enum-known-parsed-2 c = search needs
-
-mul-put-cell : tie.Need-mul-put-cell Inv-loop μ-loop
-mul-put-cell c = search needs
-
 put-cell-requires : tie.Need-put-cell-requires Inv-loop μ-loop
 put-cell-requires c κs =
     let e = c .before .before .before .before .before .before .before in
@@ -108,9 +78,6 @@ add-i c =
     let at = e .before .before .before in
     let l = limits _ (at .before .before .before .before .before .before .before .pre .0 .0) in
     record { fits = omega (arith, at .loop .inv .1 .few, l .t-high) }
-
-loop-less : tie.Need-loop-less Inv-loop μ-loop
-loop-less c = search needs
 
 loop-again : tie.Need-loop-again Inv-loop μ-loop
 loop-again c =
@@ -154,27 +121,7 @@ returns-3 c =
 pub parse-lines-spec : {M : Type 1} → statement M
 parse-lines-spec =
     tie.close
-    (tie.spec
-    Inv-loop
-    μ-loop
-    cast-t
-    loop-holds
-    next-line-requires
-    same-length
-    returns
-    sub-parse-line
-    part-parse-line-start
-    part-parse-line-end
-    parse-line-requires
-    enum-known-parsed
-    refuse-line-requires
-    same-length-2
-    returns-2
-    enum-known-parsed-2
-    mul-put-cell
-    put-cell-requires
-    add-i
-    loop-less
-    loop-again
-    same-length-3
-    returns-3)
+    (tie.spec Inv-loop μ-loop (λ c. search needs) loop-holds (λ c κs. search needs) same-length returns
+    (λ c. search needs) (λ c. search needs) (λ c. search needs) (λ c κs. search needs) (λ c. search needs)
+    (λ c κs. search needs) same-length-2 returns-2 (λ c. search needs) (λ c. search needs) put-cell-requires add-i
+    (λ c. search needs) loop-again same-length-3 returns-3)

@@ -12,24 +12,6 @@ use Rattle.model.specs.Load.{lines}
 use Rattle.loader.proofs.refuse_line.Statement.{statement}
 use Rattle.loader.proofs.refuse_line.Tie as tie
 
-sub-count-lines : tie.Need-sub-count-lines
-sub-count-lines c = search needs
-
-part-count-lines-start : tie.Need-part-count-lines-start
-part-count-lines-start c = search needs
-
-part-count-lines-end : tie.Need-part-count-lines-end
-part-count-lines-end c = search needs
-
-count-lines-requires : tie.Need-count-lines-requires
-count-lines-requires c κs = search needs
-
-sub-if1 : tie.Need-sub-if1
-sub-if1 c = search needs
-
-sub-if1-2 : tie.Need-sub-if1-2
-sub-if1-2 c = search needs
-
 -- The lines left against those that there is room for.
 at-most : (i t : ℕ) {n m : ℕ} → n ≡ m → i + 1 ≤ t → n ≤ t - i - 1 → i + 1 + m ≤ t
 at-most i t e l h = omega arith
@@ -50,12 +32,5 @@ returns-2 c = let a = c .before .before .before .before in simp (lt-leb _ _ (mor
 pub refuse-line-spec : {M : Type 1} → statement M
 refuse-line-spec =
     tie.close
-    (tie.spec
-    sub-count-lines
-    part-count-lines-start
-    part-count-lines-end
-    count-lines-requires
-    sub-if1
-    sub-if1-2
-    returns
-    returns-2)
+    (tie.spec (λ c. search needs) (λ c. search needs) (λ c. search needs) (λ c κs. search needs) (λ c. search needs)
+    (λ c. search needs) returns returns-2)
