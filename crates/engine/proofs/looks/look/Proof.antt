@@ -19,34 +19,10 @@ returns c input registers cells n s =
     let start = c .before .before .before .before in
     found-failed (environmentOf (start .args .p) (now (start .args .image)) input) (stateOf (start .args .at) registers cells) (start .args .allowance) (start .args .room) (c .if1 .taken)
 
-cast-if2 : tie.Need-cast-if2
-cast-if2 c = search needs
-
 returns-2 : tie.Need-returns-2
 returns-2 c input registers cells n s =
     let start = c .before .before .before .before .before .before in
     found-end (environmentOf (start .args .p) (now (start .args .image)) input) (stateOf (start .args .at) registers cells) (start .args .allowance) (start .args .room) (c .before .before .if1 .left) (c .if2 .taken)
-
-mul-first : tie.Need-mul-first
-mul-first c = search needs
-
-add-end : tie.Need-add-end
-add-end c = search needs
-
-mul-read-cell : tie.Need-mul-read-cell
-mul-read-cell c = search needs
-
-sub-read-cell : tie.Need-sub-read-cell
-sub-read-cell c = search needs
-
-part-read-cell-start : tie.Need-part-read-cell-start
-part-read-cell-start c = search needs
-
-part-read-cell-end : tie.Need-part-read-cell-end
-part-read-cell-end c = search needs
-
-read-cell-requires : tie.Need-read-cell-requires
-read-cell-requires c κs = search needs
 
 returns-3 : tie.Need-returns-3
 returns-3 c input registers cells n s =
@@ -63,9 +39,6 @@ returns-4 c input registers cells n s =
     let cell = c .before .before in
     let start = cell .before .before .before .before .before .before .before .before .before in
     found-paused (reads (cell .before)) input registers cells (start .args .allowance) (start .args .room) (cell .if3 .left) (c .before .cost .ensures) (c .if4 .taken)
-
-value-count-requires : tie.Need-value-count-requires
-value-count-requires c κs = search needs
 
 returns-5 : tie.Need-returns-5
 returns-5 c input registers cells n s =
@@ -84,20 +57,6 @@ returns-6 c input registers cells n s =
 pub look-spec : {M : Type 1} → statement M
 look-spec =
     tie.close
-    (tie.spec
-    returns
-    cast-if2
-    returns-2
-    mul-first
-    add-end
-    mul-read-cell
-    sub-read-cell
-    part-read-cell-start
-    part-read-cell-end
-    read-cell-requires
-    returns-3
-    cost-requires
-    returns-4
-    value-count-requires
-    returns-5
-    returns-6)
+    (tie.spec returns (λ c. search needs) returns-2 (λ c. search needs) (λ c. search needs) (λ c. search needs)
+    (λ c. search needs) (λ c. search needs) (λ c. search needs) (λ c κs. search needs) returns-3 cost-requires
+    returns-4 (λ c κs. search needs) returns-5 returns-6)
