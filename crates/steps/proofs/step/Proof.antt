@@ -34,12 +34,6 @@ choose-requires c κs =
     let first = second .before .before .before in
     choosable (first .before .before .before .before .pre) (first-read first) (second-read second)
 
-same-length : tie.Need-same-length
-same-length c = search needs
-
-same-length-2 : tie.Need-same-length-2
-same-length-2 c = search needs
-
 returns : tie.Need-returns
 returns c =
     let chosen = c .before in
@@ -63,15 +57,6 @@ apply-requires c κs =
     let g = chosen .choose .ensures in
     (indexed (start .pre), room-enough (start .pre) e f g)
 
-same-length-3 : tie.Need-same-length-3
-same-length-3 c = search needs
-
-same-length-4 : tie.Need-same-length-4
-same-length-4 c = search needs
-
-same-length-5 : tie.Need-same-length-5
-same-length-5 c = search needs
-
 returns-2 : tie.Need-returns-2
 returns-2 c =
     let applied = c .before .before .before .before in
@@ -91,15 +76,5 @@ returns-2 c =
 pub step-spec : {M : Type 1} → statement M
 step-spec =
     tie.close
-    (tie.spec
-    read-requires
-    read-requires-2
-    choose-requires
-    same-length
-    same-length-2
-    returns
-    apply-requires
-    same-length-3
-    same-length-4
-    same-length-5
-    returns-2)
+    (tie.spec read-requires read-requires-2 choose-requires (λ c. search needs) (λ c. search needs) returns
+    apply-requires (λ c. search needs) (λ c. search needs) (λ c. search needs) returns-2)
