@@ -45,9 +45,6 @@ sub-look-2 c = c .loop .inv .1 .within
 look-requires : tie.Need-look-requires Inv-loop μ-loop
 look-requires c κs = let h = c .loop .inv .0 in (h .price-table, (h .image-length, (h .image-fits, c .loop .inv .1 .sound .iar)))
 
-enum-known-found : tie.Need-enum-known-found Inv-loop μ-loop
-enum-known-found c = search needs
-
 same-length : tie.Need-same-length Inv-loop μ-loop
 same-length c = c .before .before .before .before .loop .inv .1 .sound .register-count ∙ sym (c .before .before .before .before .loop .inv .0 .sound .register-count)
 
@@ -59,9 +56,6 @@ same-length-3 c = c .before .before .before .before .loop .inv .1 .long
 
 returns : tie.Need-returns Inv-loop μ-loop
 returns c = stopped (c .before .before .before .before .loop .inv .0) (c .before .before .before .before .loop .inv .1) (sym (c .before .found .given .1) ∙ the-look (c .before .before .before))
-
-enum-known-found-2 : tie.Need-enum-known-found-2 Inv-loop μ-loop
-enum-known-found-2 c = search needs
 
 add-spent : tie.Need-add-spent Inv-loop μ-loop
 add-spent c =
@@ -109,25 +103,6 @@ loop-less c =
 pub run-spec : {M : Type 1} → statement M
 run-spec =
     tie.close
-    (tie.spec
-    Inv-loop
-    μ-loop
-    loop-holds
-    sub-look
-    sub-look-2
-    look-requires
-    enum-known-found
-    same-length
-    same-length-2
-    same-length-3
-    returns
-    enum-known-found-2
-    add-spent
-    add-count
-    mul-step
-    sub-step
-    part-step-start
-    part-step-end
-    step-requires
-    loop-less
-    loop-again)
+    (tie.spec Inv-loop μ-loop loop-holds sub-look sub-look-2 look-requires (λ c. search needs) same-length
+    same-length-2 same-length-3 returns (λ c. search needs) add-spent add-count mul-step sub-step part-step-start
+    part-step-end step-requires loop-less loop-again)
