@@ -26,9 +26,6 @@ top-fits c = record { sfits = omega (arith, up c .high, c .pre .2) }
 sum : (c : tie.Start) → toZ w64 (ofZ w64 (toZ w64 (ofZ w64 (c .args .rec .shr)) +ℤ pos 1)) ≡ pos (up c .top)
 sum c = rw (toZ-ofZ (fits c), up c .is) (toZ-ofZ (top-fits c))
 
-cast-t2 : tie.Need-cast-t2
-cast-t2 c = search needs
-
 add-t3 : tie.Need-add-t3
 add-t3 c = let s = c .before .before .before in rw (toZ-ofZ (fits s), up s .is) (top-fits s)
 
@@ -39,4 +36,4 @@ returns : tie.Need-returns
 returns c = λ m. let s = c .before .before .before in rw (sum s, up s .back)
 
 pub core-of-spec : {M : Type 1} → statement M
-core-of-spec = tie.close (tie.spec cast-t2 add-t3 cast-t4 returns)
+core-of-spec = tie.close (tie.spec (λ c. search needs) add-t3 cast-t4 returns)

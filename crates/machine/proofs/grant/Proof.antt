@@ -45,15 +45,6 @@ steady e = let s = start-of e in sound (lent s) (held s) (call s) (refusal-of e)
 within : (e : tie.Else1) → Limits (start-of e .args .rec .parameters)
 within e = limits (start-of e .args .rec .parameters) (checked e .start .fit)
 
-grant-refusal-requires : tie.Need-grant-refusal-requires
-grant-refusal-requires c κs = search needs
-
-same-length : tie.Need-same-length
-same-length c = search needs
-
-same-length-2 : tie.Need-same-length-2
-same-length-2 c = search needs
-
 returns : tie.Need-returns
 returns c =
     let s = c .before .before .before .before .before .before in
@@ -71,14 +62,8 @@ returns-2 c =
 limit-of-requires : tie.Need-limit-of-requires
 limit-of-requires c κs = let l = within (c .before) in (l .k-low, l .k-high)
 
-price-table-requires : tie.Need-price-table-requires
-price-table-requires c κs = search needs
-
 add-granted : tie.Need-add-granted
 add-granted c = record { fits = omega (arith, checked (c .before .before .before .before) .granted) }
-
-slice-aggregate-run : tie.Need-slice-aggregate-run
-slice-aggregate-run c = search needs
 
 core-of-requires : tie.Need-core-of-requires
 core-of-requires c κs =
@@ -102,35 +87,9 @@ record-of-requires c κs =
     let s = ran .run .ensures .sound in
     (omega (arith, s .iar, l .t-high), omega (arith, top-between (ran .run .result .core .top) (start-of passed .args .rec .parameters .s) (s .high), l .s-high))
 
-sub-t33 : tie.Need-sub-t33
-sub-t33 c = search needs
-
-same-length-3 : tie.Need-same-length-3
-same-length-3 c = search needs
-
-same-length-4 : tie.Need-same-length-4
-same-length-4 c = search needs
-
-same-length-5 : tie.Need-same-length-5
-same-length-5 c = search needs
-
 pub grant-spec : {M : Type 1} → statement M
 grant-spec =
     tie.close
-    (tie.spec
-    grant-refusal-requires
-    same-length
-    same-length-2
-    returns
-    limit-of-requires
-    price-table-requires
-    add-granted
-    slice-aggregate-run
-    core-of-requires
-    run-requires
-    record-of-requires
-    sub-t33
-    same-length-3
-    same-length-4
-    same-length-5
-    returns-2)
+    (tie.spec (λ c κs. search needs) (λ c. search needs) (λ c. search needs) returns limit-of-requires
+    (λ c κs. search needs) add-granted (λ c. search needs) core-of-requires run-requires record-of-requires
+    (λ c. search needs) (λ c. search needs) (λ c. search needs) (λ c. search needs) returns-2)

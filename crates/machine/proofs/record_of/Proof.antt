@@ -9,12 +9,6 @@ use Rattle.model.proofs.Integers.{mag-pred}
 use Rattle.machine.proofs.record_of.Statement.{statement}
 use Rattle.machine.proofs.record_of.Tie as tie
 
-cast-t5 : tie.Need-cast-t5
-cast-t5 c = search needs
-
-cast-t6 : tie.Need-cast-t6
-cast-t6 c = search needs
-
 sub-t7 : tie.Need-sub-t7
 sub-t7 c = let s = c .before .before in rw (toZ-pos w64 {n = s .args .at .top} (omega (arith, s .pre .1))) (record { sfits = omega (arith, mag-pred (s .args .at .top), s .pre .1) })
 
@@ -25,4 +19,4 @@ returns c =
     λ m. rw (toZ-pos w64 {n = s .args .at .top} (omega (arith, s .pre .1)), toZ-ofZ f)
 
 pub record-of-spec : {M : Type 1} → statement M
-record-of-spec = tie.close (tie.spec cast-t5 cast-t6 sub-t7 returns)
+record-of-spec = tie.close (tie.spec (λ c. search needs) (λ c. search needs) sub-t7 returns)
