@@ -9,24 +9,6 @@ use Rattle.session.proofs.Lines.{not-begun, has-begun}
 use Rattle.session.proofs.begin.Statement.{statement}
 use Rattle.session.proofs.begin.Tie as tie
 
-start-requires : tie.Need-start-requires
-start-requires c κs = search needs
-
-put-refusal-requires : tie.Need-put-refusal-requires
-put-refusal-requires c κs = search needs
-
-stop-after-requires : tie.Need-stop-after-requires
-stop-after-requires c κs = search needs
-
-same-length : tie.Need-same-length
-same-length c = search needs
-
-same-length-2 : tie.Need-same-length-2
-same-length-2 c = search needs
-
-same-length-3 : tie.Need-same-length-3
-same-length-3 c = search needs
-
 returns : tie.Need-returns
 returns c =
     let begun = c .before .before .before .before .before .before .before .before .before .before in
@@ -38,15 +20,6 @@ returns c =
       omega (arith, put .room, put .end, put-length put),
     )
 
-grant-after-requires : tie.Need-grant-after-requires
-grant-after-requires c κs = search needs
-
-same-length-4 : tie.Need-same-length-4
-same-length-4 c = search needs
-
-same-length-5 : tie.Need-same-length-5
-same-length-5 c = search needs
-
 returns-2 : tie.Need-returns-2
 returns-2 c =
     let begun = c .before .before .before .before .before .before in
@@ -57,15 +30,6 @@ returns-2 c =
 pub begin-spec : {M : Type 1} → statement M
 begin-spec =
     tie.close
-    (tie.spec
-    start-requires
-    put-refusal-requires
-    stop-after-requires
-    same-length
-    same-length-2
-    same-length-3
-    returns
-    grant-after-requires
-    same-length-4
-    same-length-5
+    (tie.spec (λ c κs. search needs) (λ c κs. search needs) (λ c κs. search needs) (λ c. search needs)
+    (λ c. search needs) (λ c. search needs) returns (λ c κs. search needs) (λ c. search needs) (λ c. search needs)
     returns-2)

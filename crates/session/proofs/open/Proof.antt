@@ -9,33 +9,6 @@ use Rattle.session.proofs.Lines.{not-loaded, has-loaded}
 use Rattle.session.proofs.open.Statement.{statement}
 use Rattle.session.proofs.open.Tie as tie
 
-load-requires : tie.Need-load-requires
-load-requires c κs = search needs
-
-enum-known-loaded : tie.Need-enum-known-loaded
-enum-known-loaded c = search needs
-
-put-refusal-requires : tie.Need-put-refusal-requires
-put-refusal-requires c κs = search needs
-
-fresh-requires : tie.Need-fresh-requires
-fresh-requires c κs = search needs
-
-stop-after-requires : tie.Need-stop-after-requires
-stop-after-requires c κs = search needs
-
-enum-told : tie.Need-enum-told
-enum-told c = search needs
-
-begin-requires : tie.Need-begin-requires
-begin-requires c κs = search needs
-
-same-length : tie.Need-same-length
-same-length c = search needs
-
-same-length-2 : tie.Need-same-length-2
-same-length-2 c = search needs
-
 returns : tie.Need-returns
 returns c =
     let done = c .before .before .before .before .before .before .before .before .before .before .before in
@@ -46,18 +19,6 @@ returns c =
           (done .load .ensures .0) (done .load .ensures .1 .1) (c .before .before .before .before .before .before .before .loaded .given .1) _ refl put,
       omega (arith, put .room, put .end, put-length put),
     )
-
-same-length-3 : tie.Need-same-length-3
-same-length-3 c = search needs
-
-same-length-4 : tie.Need-same-length-4
-same-length-4 c = search needs
-
-same-length-5 : tie.Need-same-length-5
-same-length-5 c = search needs
-
-same-length-6 : tie.Need-same-length-6
-same-length-6 c = search needs
 
 returns-2 : tie.Need-returns-2
 returns-2 c =
@@ -72,19 +33,6 @@ returns-2 c =
 pub open-spec : {M : Type 1} → statement M
 open-spec =
     tie.close
-    (tie.spec
-    load-requires
-    enum-known-loaded
-    put-refusal-requires
-    fresh-requires
-    stop-after-requires
-    enum-told
-    begin-requires
-    same-length
-    same-length-2
-    returns
-    same-length-3
-    same-length-4
-    same-length-5
-    same-length-6
-    returns-2)
+    (tie.spec (λ c κs. search needs) (λ c. search needs) (λ c κs. search needs) (λ c κs. search needs)
+    (λ c κs. search needs) (λ c. search needs) (λ c κs. search needs) (λ c. search needs) (λ c. search needs)
+    returns (λ c. search needs) (λ c. search needs) (λ c. search needs) (λ c. search needs) returns-2)

@@ -11,9 +11,6 @@ use Rattle.session.proofs.Lines.{written-fits, reported}
 use Rattle.session.proofs.run_grant.Statement.{statement}
 use Rattle.session.proofs.run_grant.Tie as tie
 
-grant-requires : tie.Need-grant-requires
-grant-requires c κs = search needs
-
 slice-reshare-prefix-put-values : tie.Need-slice-reshare-prefix-put-values
 slice-reshare-prefix-put-values c = written-fits (c .before .before .before .grant .ensures)
 
@@ -37,18 +34,6 @@ finish-requires c κs =
     let start = done .before .before .before .before .before .before .before in
     omega (arith, fit, some, put .before .before .before .values .given, start .pre, put .put-values .ensures .1, put-length (put .put-values .ensures .0))
 
-same-length : tie.Need-same-length
-same-length c = search needs
-
-same-length-2 : tie.Need-same-length-2
-same-length-2 c = search needs
-
-same-length-3 : tie.Need-same-length-3
-same-length-3 c = search needs
-
-same-length-4 : tie.Need-same-length-4
-same-length-4 c = search needs
-
 returns : tie.Need-returns
 returns c =
     let last = c .before .before .finish .ensures in
@@ -66,14 +51,5 @@ returns c =
 pub run-grant-spec : {M : Type 1} → statement M
 run-grant-spec =
     tie.close
-    (tie.spec
-    grant-requires
-    slice-reshare-prefix-put-values
-    slice-aggregate-put-values
-    put-values-requires
-    finish-requires
-    same-length
-    same-length-2
-    same-length-3
-    same-length-4
-    returns)
+    (tie.spec (λ c κs. search needs) slice-reshare-prefix-put-values slice-aggregate-put-values put-values-requires
+    finish-requires (λ c. search needs) (λ c. search needs) (λ c. search needs) (λ c. search needs) returns)
