@@ -26,15 +26,6 @@ returns c =
     let s = c .before .before .before in
     grant-size (lent s) (slices s) (call s) (c .if1 .taken)
 
-record-from-requires : tie.Need-record-from-requires
-record-from-requires c κs = search needs
-
-grant-requires : tie.Need-grant-requires
-grant-requires c κs = search needs
-
-outcome-number-requires : tie.Need-outcome-number-requires
-outcome-number-requires c κs = search needs
-
 returns-2 : tie.Need-returns-2
 returns-2 c =
     let number = c .before .before .before .before in
@@ -52,33 +43,8 @@ hand-back-requires c κs =
     let s = passed .before .before .before in
     (λ h. grant-narrow (withParameters (read .record-from .result .parameters) (lent s)) (record { rec = read .record-from .result; memory = slices s .memory }) (call s) (ran .grant .ensures) (sym (c .before .outcome-number .ensures) ∙ h), passed .if1 .left)
 
-outcome-ending-requires : tie.Need-outcome-ending-requires
-outcome-ending-requires c κs = search needs
-
-same-length : tie.Need-same-length
-same-length c = search needs
-
-same-length-2 : tie.Need-same-length-2
-same-length-2 c = search needs
-
-same-length-3 : tie.Need-same-length-3
-same-length-3 c = search needs
-
-same-length-4 : tie.Need-same-length-4
-same-length-4 c = search needs
-
 pub grant-to-spec : {M : Type 1} → statement M
 grant-to-spec =
     tie.close
-    (tie.spec
-    returns
-    record-from-requires
-    grant-requires
-    outcome-number-requires
-    hand-back-requires
-    outcome-ending-requires
-    same-length
-    same-length-2
-    same-length-3
-    same-length-4
-    returns-2)
+    (tie.spec returns (λ c κs. search needs) (λ c κs. search needs) (λ c κs. search needs) hand-back-requires
+    (λ c κs. search needs) (λ c. search needs) (λ c. search needs) (λ c. search needs) (λ c. search needs) returns-2)

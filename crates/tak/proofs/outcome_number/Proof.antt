@@ -5,12 +5,6 @@ use Rattle.model.specs.Calls.{outcomeNumber}
 use Rattle.tak.proofs.outcome_number.Statement.{statement}
 use Rattle.tak.proofs.outcome_number.Tie as tie
 
-enum-known-o : tie.Need-enum-known-o
-enum-known-o c = search needs
-
-enum-told : tie.Need-enum-told
-enum-told c = search needs
-
 returns : tie.Need-returns
 unfolding outcomeNumber
 returns c = sym (ap outcomeNumber (c .before .o .given .1))
@@ -20,4 +14,4 @@ unfolding outcomeNumber
 returns-2 c = sym (ap outcomeNumber (c .enum-told .given .1))
 
 pub outcome-number-spec : {M : Type 1} → statement M
-outcome-number-spec = tie.close (tie.spec enum-known-o enum-told returns returns-2)
+outcome-number-spec = tie.close (tie.spec (λ c. search needs) (λ c. search needs) returns returns-2)

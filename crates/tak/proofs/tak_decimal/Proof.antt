@@ -6,15 +6,9 @@ use Rattle.tak.specs.Calls.{decimalReplied, takDecimal}
 use Rattle.tak.proofs.tak_decimal.Statement.{statement}
 use Rattle.tak.proofs.tak_decimal.Tie as tie
 
-write-decimal-requires : tie.Need-write-decimal-requires
-write-decimal-requires c κs = search needs
-
-same-length : tie.Need-same-length
-same-length c = search needs
-
 returns : tie.Need-returns
 unfolding takDecimal
 returns c = ap decimalReplied (sym (rw (toZ-ofZ (c .before .before .before .before .before .fits .value)) at (c .before .before .write-decimal .ensures)))
 
 pub tak-decimal-spec : {M : Type 1} → statement M
-tak-decimal-spec = tie.close (tie.spec write-decimal-requires same-length returns)
+tak-decimal-spec = tie.close (tie.spec (λ c κs. search needs) (λ c. search needs) returns)

@@ -5,15 +5,6 @@ use Rattle.tak.proofs.CallLaws.{load-replied}
 use Rattle.tak.proofs.tak_load.Statement.{statement}
 use Rattle.tak.proofs.tak_load.Tie as tie
 
-load-requires : tie.Need-load-requires
-load-requires c κs = search needs
-
-load-numbers-requires : tie.Need-load-numbers-requires
-load-numbers-requires c κs = search needs
-
-same-length : tie.Need-same-length
-same-length c = search needs
-
 returns : tie.Need-returns
 returns c =
     let loaded = c .before .before .before .load in
@@ -22,4 +13,4 @@ returns c =
     (loaded .ensures .1 .1) (c .load-numbers .ensures)
 
 pub tak-load-spec : {M : Type 1} → statement M
-tak-load-spec = tie.close (tie.spec load-requires load-numbers-requires same-length returns)
+tak-load-spec = tie.close (tie.spec (λ c κs. search needs) (λ c κs. search needs) (λ c. search needs) returns)

@@ -20,24 +20,12 @@ returns c =
     let s = c .before .before in
     start-size (lent s) (slices s) (c .if1 .taken)
 
-start-requires : tie.Need-start-requires
-start-requires c κs = search needs
-
 hand-back-requires : tie.Need-hand-back-requires
 hand-back-requires c κs =
     let ran = c .before .before .before in
     let passed = ran .before .before .before in
     let s = passed .before .before in
     (λ h. start-narrow (lent s) (slices s .memory) (ran .start .ensures), passed .if1 .left)
-
-same-length : tie.Need-same-length
-same-length c = search needs
-
-same-length-2 : tie.Need-same-length-2
-same-length-2 c = search needs
-
-same-length-3 : tie.Need-same-length-3
-same-length-3 c = search needs
 
 returns-2 : tie.Need-returns-2
 returns-2 c =
@@ -49,11 +37,5 @@ returns-2 c =
 pub tak-start-spec : {M : Type 1} → statement M
 tak-start-spec =
     tie.close
-    (tie.spec
-    returns
-    start-requires
-    hand-back-requires
-    same-length
-    same-length-2
-    same-length-3
-    returns-2)
+    (tie.spec returns (λ c κs. search needs) hand-back-requires (λ c. search needs) (λ c. search needs)
+    (λ c. search needs) returns-2)
