@@ -76,7 +76,7 @@ module _ (e : Environment) where
       let t = chain-answered (heldAfter g) (n .fitting) (ap (λ (z : GrantCall). z .slices) y ∙ after e h w c) ch in
       record {
         answers-are = (λ j. y j ∷ t .answers-are j)
-        ∙ ap (λ (l : List ℤ). grantReplied g (numbersOf (h .rec)) ∷ allReplied l (gives e (heldAfter g) cs)) (sym (n .numbers));
+            ∙ ap (λ (l : List ℤ). grantReplied g (numbersOf (h .rec)) ∷ allReplied l (gives e (heldAfter g) cs)) (sym (n .numbers));
         last-is = t .last-is;
       }
 

@@ -149,8 +149,14 @@ fn grant_to(
 ) -> GrantNumbers
     ensures { λ r. ⌜ takGrant (environmentOf (recordFrom (now (numbers .entry)) .parameters) (now (image .entry)) (now (input .entry)))
         (asSlices (now (numbers .entry)) (now (registers .entry)) (now (cells .entry))) (asCall cycles (now (output .entry)))
-        ≡ record { number = r .refusal; ending = r .ending; values = r .values; spent = r .spent;
-            slices = asSlices (now (numbers .exit)) (now (registers .exit)) (now (cells .exit)); output = now (output .exit) } ⌝ }
+        ≡ record {
+          number = r .refusal;
+          ending = r .ending;
+          values = r .values;
+          spent = r .spent;
+          slices = asSlices (now (numbers .exit)) (now (registers .exit)) (now (cells .exit));
+          output = now (output .exit);
+        } ⌝ }
 {
     if numbers.len() != RECORD {
         return GrantNumbers {
@@ -189,8 +195,14 @@ pub extern "C" fn tak_grant(
 ) -> u32
     ensures { λ r. ⌜ takGrant (environmentOf (recordFrom (now (numbers .entry)) .parameters) (now (image .entry)) (now (input .entry)))
         (asSlices (now (numbers .entry)) (now (registers .entry)) (now (cells .entry))) (asCall cycles (now (output .entry)))
-        ≡ record { number = r; ending = now (ending .exit); values = now (values .exit); spent = now (spent .exit);
-            slices = asSlices (now (numbers .exit)) (now (registers .exit)) (now (cells .exit)); output = now (output .exit) } ⌝ }
+        ≡ record {
+          number = r;
+          ending = now (ending .exit);
+          values = now (values .exit);
+          spent = now (spent .exit);
+          slices = asSlices (now (numbers .exit)) (now (registers .exit)) (now (cells .exit));
+          output = now (output .exit);
+        } ⌝ }
 {
     let reported = grant_to(numbers, cycles, image, input, registers, cells, output);
     *ending = reported.ending;

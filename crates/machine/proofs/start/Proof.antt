@@ -13,38 +13,11 @@ lent s = environmentOf (s .args .p) (s .args .image .now) []
 abbrev memory : tie.Start → Memory
 memory s = asMemory (s .args .registers .now) (s .args .cells .now)
 
-start-refusal-requires : tie.Need-start-refusal-requires
-start-refusal-requires c κs = search needs
-
-zero-record-requires : tie.Need-zero-record-requires
-zero-record-requires c κs = search needs
-
-same-length : tie.Need-same-length
-same-length c = search needs
-
-same-length-2 : tie.Need-same-length-2
-same-length-2 c = search needs
-
 returns : tie.Need-returns
 returns c =
     let checked = c .before .before in
     let s = checked .before .before .before .before in
     rw (c .zero-record .ensures) (start-refuses (lent s) (memory s) _ (checked .start-refusal .ensures) (c .before .if1 .taken))
-
-clear-requires : tie.Need-clear-requires
-clear-requires c κs = search needs
-
-clear-requires-2 : tie.Need-clear-requires-2
-clear-requires-2 c κs = search needs
-
-fresh-requires : tie.Need-fresh-requires
-fresh-requires c κs = search needs
-
-same-length-3 : tie.Need-same-length-3
-same-length-3 c = search needs
-
-same-length-4 : tie.Need-same-length-4
-same-length-4 c = search needs
 
 returns-2 : tie.Need-returns-2
 returns-2 c =
@@ -58,15 +31,6 @@ returns-2 c =
 pub start-spec : {M : Type 1} → statement M
 start-spec =
     tie.close
-    (tie.spec
-    start-refusal-requires
-    zero-record-requires
-    same-length
-    same-length-2
-    returns
-    clear-requires
-    clear-requires-2
-    fresh-requires
-    same-length-3
-    same-length-4
+    (tie.spec (λ c κs. search needs) (λ c κs. search needs) (λ c. search needs) (λ c. search needs) returns
+    (λ c κs. search needs) (λ c κs. search needs) (λ c κs. search needs) (λ c. search needs) (λ c. search needs)
     returns-2)

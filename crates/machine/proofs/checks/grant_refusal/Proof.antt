@@ -34,9 +34,6 @@ checked e = sym (e .before .start-refusal .ensures ∙ input-unseen (lent (start
 fitting : (e : tie.Else2) → let s = start-1 (one-2 e) in recordFits (lent s) (accountOf (held s)) ≡ true
 fitting e = sym (e .before .record-fits .ensures (lent (start-1 (one-2 e)) .image)) ∙ not-false _ (e .if2 .left)
 
-start-refusal-requires : tie.Need-start-refusal-requires
-start-refusal-requires c κs = search needs
-
 returns : tie.Need-returns
 returns c =
     let s = c .before .before .before .before .before in
@@ -82,12 +79,5 @@ returns-5 c =
 pub grant-refusal-spec : {M : Type 1} → statement M
 grant-refusal-spec =
     tie.close
-    (tie.spec
-    start-refusal-requires
-    returns
-    record-fits-requires
-    returns-2
-    returns-3
-    cycles-fit-requires
-    returns-4
+    (tie.spec (λ c κs. search needs) returns record-fits-requires returns-2 returns-3 cycles-fit-requires returns-4
     returns-5)

@@ -11,17 +11,13 @@ use Rattle.machine.proofs.checks.memory_fits.Tie as tie
 abbrev memory : tie.Start → Memory
 memory s = asMemory (now (s .args .registers)) (now (s .args .cells))
 
-cast-if1 : tie.Need-cast-if1
-cast-if1 c = search needs
-
 returns : tie.Need-returns
 returns c = let s = c .before .before in by-registers (s .args .p) (memory s) (c .if1 .taken)
-
-cast-result : tie.Need-cast-result
-cast-result c = search needs
 
 returns-2 : tie.Need-returns-2
 returns-2 c = let s = c .before .before .before in by-cells (s .args .p) (memory s) (c .before .if1 .left) refl
 
 pub memory-fits-spec : {M : Type 1} → statement M
-memory-fits-spec = tie.close (tie.spec cast-if1 returns cast-result returns-2)
+memory-fits-spec =
+    tie.close
+    (tie.spec (λ c. search needs) returns (λ c. search needs) returns-2)

@@ -11,19 +11,10 @@ use Rattle.machine.proofs.checks.shape_refusal.Tie as tie
 fit-of : (e : tie.Else1) → Fit (e .before .before .before .args .p)
 fit-of e = sym (e .before .parameter-refusal .ensures) ∙ e .if1 .left
 
-parameter-refusal-requires : tie.Need-parameter-refusal-requires
-parameter-refusal-requires c κs = search needs
-
 returns : tie.Need-returns
 returns c =
     let a = c .before .before .before .args in
     by-parameters (a .p) (now (a .image)) (c .before .parameter-refusal .ensures) (c .if1 .taken)
-
-cast-if2 : tie.Need-cast-if2
-cast-if2 c = search needs
-
-mul-if2 : tie.Need-mul-if2
-mul-if2 c = search needs
 
 returns-2 : tie.Need-returns-2
 returns-2 c =
@@ -38,4 +29,6 @@ returns-3 c =
     shape-passed (a .p) (now (a .image)) (fit-of one) (c .if2 .left)
 
 pub shape-refusal-spec : {M : Type 1} → statement M
-shape-refusal-spec = tie.close (tie.spec parameter-refusal-requires returns cast-if2 mul-if2 returns-2 returns-3)
+shape-refusal-spec =
+    tie.close
+    (tie.spec (λ c κs. search needs) returns (λ c. search needs) (λ c. search needs) returns-2 returns-3)

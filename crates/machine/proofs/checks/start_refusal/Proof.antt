@@ -26,16 +26,10 @@ shaped e = sym (e .before .shape-refusal .ensures) ∙ e .if1 .left
 fitting : (e : tie.Else2) → let s = e .before .before .before .before .before in memoryFits (s .args .p) (memory s) ≡ true
 fitting e = sym (e .before .memory-fits .ensures) ∙ not-false _ (e .if2 .left)
 
-shape-refusal-requires : tie.Need-shape-refusal-requires
-shape-refusal-requires c κs = search needs
-
 returns : tie.Need-returns
 returns c =
     let s = c .before .before .before in
     by-shape (lent s) (memory s) (c .before .shape-refusal .ensures) (c .if1 .taken)
-
-memory-fits-requires : tie.Need-memory-fits-requires
-memory-fits-requires c κs = search needs
 
 returns-2 : tie.Need-returns-2
 returns-2 c =
@@ -66,11 +60,4 @@ returns-4 c =
 pub start-refusal-spec : {M : Type 1} → statement M
 start-refusal-spec =
     tie.close
-    (tie.spec
-    shape-refusal-requires
-    returns
-    memory-fits-requires
-    returns-2
-    image-fits-requires
-    returns-3
-    returns-4)
+    (tie.spec (λ c κs. search needs) returns (λ c κs. search needs) returns-2 image-fits-requires returns-3 returns-4)
