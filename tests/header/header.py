@@ -14,7 +14,7 @@ PACKAGE = "callers/rust/src/lib.rs"
 RUST = ("callers/**/*.rs", "tests/**/*.rs", "bench/**/*.rs")
 
 # The one name that differs: contracts have another use for the word `record`.
-RENAMED = {"numbers": "record"}
+RENAMED = {"fields": "record"}
 C_TYPES = {f"{sign}int{bits}_t": f"{letter}{bits}" for sign, letter in (("u", "u"), ("", "i")) for bits in (8, 16, 32, 64)}
 C_TYPES |= {"size_t": "usize", "void": "nothing"}
 

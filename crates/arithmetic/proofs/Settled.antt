@@ -11,10 +11,10 @@ use Rattle.model.specs.Parameters.{inRange}
 use Rattle.model.specs.Arithmetic.{checked}
 use Rattle.model.proofs.Ranges.{range-mag}
 use Rattle.arithmetic.specs.declared.Computed.{Computed}
-use Rattle.cells.specs.Cells.{IsLimit, Within}
+use Rattle.bounds.specs.Bounds.{IsLimit, Within}
 use Rattle.arithmetic.specs.Answers.{computed}
-use Rattle.cells.proofs.Integers.{cast-same}
-use Rattle.cells.proofs.LimitLaws.{at-least}
+use Rattle.bounds.proofs.Integers.{cast-same}
+use Rattle.bounds.proofs.LimitLaws.{at-least}
 
 abbrev result : ℕ → ℤ → Computed
 result n z = record { code = n; value = z }

@@ -4,10 +4,10 @@ ghost use Prim.Native.Nat.{_≤_};
 ghost use lib.IntN.{pos, negℤ, natAbs, _+ℤ_, _-ℤ_, _*ℤ_};
 ghost use lib.Signed.{mag};
 ghost use Rattle.model.specs.Arithmetic.{checked, divide, remainder};
-ghost use Rattle.cells.specs.Cells.{IsLimit, Within};
+ghost use Rattle.bounds.specs.Bounds.{IsLimit, Within};
 ghost use Rattle.arithmetic.specs.Answers.{computed};
-use cells::ranges::in_range;
-use cells::ranges::in_range_wide;
+use bounds::ranges::in_range;
+use bounds::ranges::in_range_wide;
 
 // A return code, and the value where it is 0.
 pub struct Computed {
@@ -16,7 +16,7 @@ pub struct Computed {
 }
 
 // The exact result z, or code 1.
-fn settle(m: u32, z: i32) -> Computed
+fn checked(m: u32, z: i32) -> Computed
     requires { ⌜ IsLimit m ⌝ }
     ensures { λ r. ⌜ r ≡ computed (checked m z) ⌝ }
     ensures range { λ r. ⌜ Within m (r .value) ⌝ }
@@ -28,7 +28,7 @@ fn settle(m: u32, z: i32) -> Computed
 }
 
 // The same of a result in 64 bits.
-fn settle_wide(m: u32, z: i64) -> Computed
+fn checked_wide(m: u32, z: i64) -> Computed
     requires { ⌜ IsLimit m ⌝ }
     ensures { λ r. ⌜ r ≡ computed (checked m z) ⌝ }
     ensures range { λ r. ⌜ Within m (r .value) ⌝ }
@@ -48,7 +48,7 @@ pub fn neg(m: u32, x: i32) -> Computed
     ensures { λ r. ⌜ r ≡ computed (checked m (negℤ x)) ⌝ }
     ensures range { λ r. ⌜ Within m (r .value) ⌝ }
 {
-    settle(m, -x)
+    checked(m, -x)
 }
 
 pub fn abs(m: u32, x: i32) -> Computed
@@ -58,9 +58,9 @@ pub fn abs(m: u32, x: i32) -> Computed
 {
     let z = x as i64;
     if z < 0 {
-        return settle_wide(m, -z);
+        return checked_wide(m, -z);
     }
-    settle_wide(m, z)
+    checked_wide(m, z)
 }
 
 // ADD and INC.
@@ -69,7 +69,7 @@ pub fn add(m: u32, x: i32, y: i32) -> Computed
     ensures { λ r. ⌜ r ≡ computed (checked m (x +ℤ y)) ⌝ }
     ensures range { λ r. ⌜ Within m (r .value) ⌝ }
 {
-    settle_wide(m, (x as i64) + (y as i64))
+    checked_wide(m, (x as i64) + (y as i64))
 }
 
 // SUB and DEC.
@@ -78,7 +78,7 @@ pub fn sub(m: u32, x: i32, y: i32) -> Computed
     ensures { λ r. ⌜ r ≡ computed (checked m (x -ℤ y)) ⌝ }
     ensures range { λ r. ⌜ Within m (r .value) ⌝ }
 {
-    settle_wide(m, (x as i64) - (y as i64))
+    checked_wide(m, (x as i64) - (y as i64))
 }
 
 pub fn mul(m: u32, x: i32, y: i32) -> Computed
@@ -86,7 +86,7 @@ pub fn mul(m: u32, x: i32, y: i32) -> Computed
     ensures { λ r. ⌜ r ≡ computed (checked m (x *ℤ y)) ⌝ }
     ensures range { λ r. ⌜ Within m (r .value) ⌝ }
 {
-    settle_wide(m, (x as i64) * (y as i64))
+    checked_wide(m, (x as i64) * (y as i64))
 }
 
 // Divisor 0 before anything else. Only -M DIV -1 is then outside the range.
@@ -99,7 +99,7 @@ pub fn div(m: u32, x: i32, y: i32) -> Computed
     if y == 0 {
         return Computed { code: 2, value: 0 };
     }
-    settle(m, x / y)
+    checked(m, x / y)
 }
 
 // MOD. The remainder is no larger than x, so that it needs no test.

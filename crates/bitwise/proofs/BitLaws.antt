@@ -13,9 +13,9 @@ use mir.Val.{SFits, toZ, ofZ}
 use mir.Facts.{toZ-ofZ, toZ-pos, toZ-neg}
 use Rattle.model.specs.Arithmetic.{bitsOf, signedOf, inverted, bitwise, shiftLeft, shiftRightSigned}
 use Rattle.model.proofs.Ranges.{bits-lt}
-use Rattle.cells.specs.Cells.{IsLimit, Within}
-use Rattle.cells.proofs.Integers.{sub-ge, sub-lt}
-use Rattle.cells.proofs.LimitLaws.{one, double}
+use Rattle.bounds.specs.Bounds.{IsLimit, Within}
+use Rattle.bounds.proofs.Integers.{sub-ge, sub-lt}
+use Rattle.bounds.proofs.LimitLaws.{one, double}
 
 -- K BITS of a value, and back.
 pub bits-negative : (m : ℕ) (x : ℤ) → mag x < m → ltZ x (pos 0) ≡ true → x +ℤ pos (2 * m) ≡ pos (bitsOf m x)

@@ -4,7 +4,7 @@ ghost use Prim.Native.Nat.{ℕ, _*_, _<_};
 ghost use lib.Bits.{bitAnd, bitOr, bitXor};
 ghost use lib.IntN.{_+ℤ_};
 ghost use Rattle.model.specs.Arithmetic.{bitsOf, signedOf, inverted, bitwise, shiftLeft, shiftRight, shiftRightSigned};
-ghost use Rattle.cells.specs.Cells.{IsLimit, Within};
+ghost use Rattle.bounds.specs.Bounds.{IsLimit, Within};
 
 // The K bits of a value.
 fn bits(m: u32, x: i32) -> u32

@@ -4,7 +4,7 @@ ghost use mathlib.Core.List.{[], _∷_};
 ghost use Prim.Native.Nat.{_≤_, _<_};
 ghost use lib.IntN.{pos};
 ghost use lib.ListN.{length, replicate};
-ghost use Rattle.plans.specs.Plans.{registersAfter, cellsAfter, valuesOf};
+ghost use Rattle.plans.specs.Plans.{valueOut, registersAfter, cellsAfter, valuesOf};
 ghost use Rattle.effects.specs.Effects.{outputAfter, Indexed};
 use model::words::FIRST_DIRECT;
 use model::words::FIRST_REGISTER;
@@ -61,7 +61,7 @@ fn dump(values: &[i32], out: &mut [i32])
 }
 
 // One value at the front of the output.
-fn put(value: i32, out: &mut [i32])
+fn output_value(value: i32, out: &mut [i32])
     requires { ⌜ 1 ≤ length (now out) ⌝ }
     ensures { λ _. ⌜ now (out .exit) ≡ outputAfter (value ∷ []) (now (out .entry)) ⌝ }
 {
@@ -70,7 +70,7 @@ fn put(value: i32, out: &mut [i32])
 
 // A value to the register or data cell that a word names. For a word of another kind the difference, which wraps, is past every length.
 fn write(to: u32, value: i32, registers: &mut [i32], cells: &mut [i32])
-    requires { ⌜ 6 < to ⌝ }
+    requires { ⌜ valueOut < to ⌝ }
     requires { ⌜ Indexed (now registers) (now cells) ⌝ }
     ensures { λ _. ⌜ now (registers .exit) ≡ registersAfter to value (now (registers .entry)) ⌝ }
     ensures { λ _. ⌜ now (cells .exit) ≡ cellsAfter to value (now (cells .entry)) ⌝ }
@@ -88,30 +88,30 @@ fn write(to: u32, value: i32, registers: &mut [i32], cells: &mut [i32])
 
 // CLEAR_REG, CLEAR_DATA_MEM, DUMP_REG, DUMP_DATA_MEM and OUT.
 fn apply_other(to: u32, value: i32, registers: &mut [i32], cells: &mut [i32], out: &mut [i32])
-    requires { ⌜ to ≤ 6 ⌝ }
+    requires { ⌜ to ≤ valueOut ⌝ }
     requires { ⌜ length (valuesOf to value (now registers) (now cells)) ≤ length (now out) ⌝ }
     ensures { λ _. ⌜ now (registers .exit) ≡ registersAfter to value (now (registers .entry)) ⌝ }
     ensures { λ _. ⌜ now (cells .exit) ≡ cellsAfter to value (now (cells .entry)) ⌝ }
     ensures { λ _. ⌜ now (out .exit) ≡ outputAfter (valuesOf to value (now (registers .entry)) (now (cells .entry))) (now (out .entry)) ⌝ }
 {
-    if to == 1 {
+    if to == Plan::CLEAR_REGISTERS {
         clear(registers);
         return;
     }
-    if to == 2 {
+    if to == Plan::CLEAR_CELLS {
         clear(cells);
         return;
     }
-    if to == 3 {
+    if to == Plan::DUMP_REGISTERS {
         dump(registers, out);
         return;
     }
-    if to == 4 {
+    if to == Plan::DUMP_CELLS {
         dump(cells, out);
         return;
     }
-    if to == 6 {
-        put(value, out);
+    if to == Plan::OUTPUT {
+        output_value(value, out);
     }
 }
 
@@ -124,11 +124,11 @@ pub fn apply(plan: Plan, registers: &mut [i32], cells: &mut [i32], out: &mut [i3
     ensures { λ _. ⌜ now (out .exit) ≡ outputAfter (valuesOf (plan .to) (plan .value) (now (registers .entry)) (now (cells .entry))) (now (out .entry)) ⌝ }
 {
     let to = plan.to;
-    if 6 < to {
+    if Plan::OUTPUT < to {
         write(to, plan.value, registers, cells);
         return;
     }
-    if to == 0 {
+    if to == Plan::NOWHERE {
         return;
     }
     apply_other(to, plan.value, registers, cells, out)

@@ -14,7 +14,7 @@ use Rattle.model.proofs.Cells.{cell-fits}
 use Rattle.model.proofs.Costs.{priced, tak-run}
 use Rattle.model.proofs.Keeps.{Sound, is-running, step-keeps}
 use Rattle.model.proofs.Laws.{Goes, going}
-use Rattle.model.specs.Grants.{Standing, Stop, advance, run}
+use Rattle.model.specs.Grants.{RunState, Stop, advance, run}
 use Rattle.model.specs.Images.{cellFits}
 use Rattle.model.specs.Instructions.{rowOf}
 use Rattle.model.specs.Machine.{Look, stops, goes, lookAt}
@@ -75,12 +75,12 @@ sound-image h = search
 
 -- THE LOOP, from where a run began.
 module _ (e : Environment) (start : Core) (before granted : ℕ) (memory₀ : Memory) (slice₀ : List ℤ) where
-  abbrev standing : Core → (spent count : ℕ) (memory : Memory) (slice : List ℤ) → Standing State
-  standing at spent count memory slice = record { state = stateIn at memory; spent = spent; written = take count slice }
+  abbrev runState : Core → (spent count : ℕ) (memory : Memory) (slice : List ℤ) → RunState State
+  runState at spent count memory slice = record { state = stateIn at memory; spent = spent; written = take count slice }
 
   -- To go on from here is to go on from the beginning; the slice behind the values written is as it came.
-  pub record Going-on (at : Core) (spent count : ℕ) (memory : Memory) (slice : List ℤ) : Type 0 where
-    pub same : stopAt e start before granted memory₀ slice₀ ≡ run (Tak e) granted (length slice₀) (standing at spent count memory slice)
+  pub record RunInvariant (at : Core) (spent count : ℕ) (memory : Memory) (slice : List ℤ) : Type 0 where
+    pub same : stopAt e start before granted memory₀ slice₀ ≡ run (Tak e) granted (length slice₀) (runState at spent count memory slice)
     pub rest : drop count slice ≡ drop count slice₀
     pub within : count ≤ length slice
     pub long : length slice ≡ length slice₀
@@ -88,14 +88,14 @@ module _ (e : Environment) (start : Core) (before granted : ℕ) (memory₀ : Me
     pub rises : before ≤ spent
     pub sound : Sound e (stateIn at memory)
 
-  pub begins : before ≤ granted → Sound e (stateIn start memory₀) → Going-on start before 0 memory₀ slice₀
+  pub begins : before ≤ granted → Sound e (stateIn start memory₀) → RunInvariant start before 0 memory₀ slice₀
   begins p s =
       record { same = refl; rest = refl; within = omega arith; long = refl; paid = p; rises = le-refl before; sound = s }
 
 module _ {e : Environment} {start : Core} {before granted : ℕ} {memory₀ : Memory} {slice₀ : List ℤ} {m : ℕ} {prices : List ℕ}
     (h : Runnable e m prices start before granted memory₀)
     {at : Core} {spent count : ℕ} {memory : Memory} {slice : List ℤ}
-    (g : Going-on e start before granted memory₀ slice₀ at spent count memory slice) where
+    (g : RunInvariant e start before granted memory₀ slice₀ at spent count memory slice) where
   abbrev s : State
   s = stateIn at memory
 
@@ -105,13 +105,13 @@ module _ {e : Environment} {start : Core} {before granted : ℕ} {memory₀ : Me
   abbrev seen : Look
   seen = lookAt (Tak e) s (granted - spent) (length slice - count)
 
-  next-run : run (Tak e) granted (length slice₀) (standing e start before granted memory₀ slice₀ at spent count memory slice)
+  next-run : run (Tak e) granted (length slice₀) (runState e start before granted memory₀ slice₀ at spent count memory slice)
       ≡ elim seen [
-        | stops x ↦ record { ending = x; at = standing e start before granted memory₀ slice₀ at spent count memory slice }
-        | goes ↦ run (Tak e) granted (length slice₀) (advance (Tak e) (standing e start before granted memory₀ slice₀ at spent count memory slice))
+        | stops x ↦ record { ending = x; at = runState e start before granted memory₀ slice₀ at spent count memory slice }
+        | goes ↦ run (Tak e) granted (length slice₀) (advance (Tak e) (runState e start before granted memory₀ slice₀ at spent count memory slice))
       ]
   next-run =
-      tak-run e (h .fit) granted (length slice₀) (standing e start before granted memory₀ slice₀ at spent count memory slice)
+      tak-run e (h .fit) granted (length slice₀) (runState e start before granted memory₀ slice₀ at spent count memory slice)
       ∙ rw (length-take-le count slice (g .within), g .long)
 
   -- A look that stops: all is as `run` of model says.
@@ -128,7 +128,7 @@ module _ {e : Environment} {start : Core} {before granted : ℕ} {memory₀ : Me
         rises = g .rises;
       }
     where
-      is : record { ending = x; at = standing e start before granted memory₀ slice₀ at spent count memory slice } ≡ stopAt e start before granted memory₀ slice₀
+      is : record { ending = x; at = runState e start before granted memory₀ slice₀ at spent count memory slice } ≡ stopAt e start before granted memory₀ slice₀
       is = sym (g .same ∙ next-run ∙ rw (found-stops e s seen f))
 
       n : length (take count slice) ≡ count
@@ -196,7 +196,7 @@ module _ {e : Environment} {start : Core} {before granted : ℕ} {memory₀ : Me
       is-wrote : slice′ ≡ take count slice ++ outputAfter v (drop count slice)
       is-wrote = came-back ∙ put-end count slice part ∙ ap (λ (l : List ℤ). take count slice ++ l) (output ∙ rw (values-are, part-to-end))
 
-      pub goes-on : Going-on e start before granted memory₀ slice₀ next (spent + o .cost) (count + o .values) memory′ slice′
+      pub goes-on : RunInvariant e start before granted memory₀ slice₀ next (spent + o .cost) (count + o .values) memory′ slice′
       unfolding advance
       goes-on =
           rw (is-offered, is-wrote)

@@ -14,7 +14,7 @@ use Rattle.model.specs.Instructions.{instructionCount, rowOf}
 use Rattle.model.specs.Load.{allows, isWithin}
 use Rattle.model.specs.Images.{registerFits, wordFits, wordsFit, cellFits}
 use Rattle.model.proofs.Fits.{both, is-between, limits}
-use Rattle.cells.specs.Cells.{IsLimit}
+use Rattle.bounds.specs.Bounds.{IsLimit}
 use Rattle.model.proofs.Rows.{row-rule}
 use Rattle.image.specs.Forms.{packed}
 use Rattle.image.specs.Decode.{placeFits, placesFit}

@@ -11,7 +11,7 @@ use mir.Facts.{toZ-pos}
 use mir.Syntax.{w32}
 use mir.Val.{SFits, toZ}
 use Rattle.model.specs.Words.{numberOf}
-use Rattle.cells.proofs.Integers.{sub-ge, sub-lt}
+use Rattle.bounds.proofs.Integers.{sub-ge, sub-lt}
 
 -- 2^29 more, brought back below 2^30.
 abbrev raised : ℕ → ℕ

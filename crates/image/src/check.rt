@@ -7,7 +7,7 @@ ghost use Rattle.model.specs.Images.{allZero, imageFits};
 use crate::decode::Decoded;
 use crate::decode::decode;
 use crate::forms::form_table;
-use cells::limits::limit_of;
+use bounds::limits::limit_of;
 use model::Parameters;
 
 // The words from `start` on are zeros.

@@ -12,7 +12,7 @@ use crate::forms::forms_of;
 use crate::words::content;
 use crate::words::kind;
 use crate::words::number;
-use cells::ranges::in_range;
+use bounds::ranges::in_range;
 use model::Parameters;
 use model::words::DIRECT;
 use model::words::IAR;

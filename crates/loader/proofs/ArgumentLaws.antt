@@ -17,13 +17,13 @@ use Rattle.model.specs.Parameters.{limit, maxCells, inRange}
 use Rattle.model.specs.Numbers.{bytes, upper, mapped, natural, number}
 use Rattle.model.specs.Words.{Argument, register, special, direct, literal, argumentWord, registerKind, directKind, numberKind, iarNumber, ircrNumber, shrNumber, wordOf, numberBits}
 use Rattle.model.specs.Load.{sameWord, specialOf, afterD, plain, argument, fine, fault, allows, isWithin, placed}
-use Rattle.cells.proofs.Integers.{sub-ge}
+use Rattle.bounds.proofs.Integers.{sub-ge}
 use Rattle.numbers.specs.declared.reading.Reading.{Reading}
 use Rattle.numbers.specs.declared.reading.Reading.the-variants.{NotANumber, Number, Outside}
 use Rattle.numbers.specs.Reading.{capped, readingOf}
-use Rattle.loader.specs.declared.arguments.Placed.{Placed}
-use Rattle.loader.specs.declared.arguments.Placed.the-variants.{Word, Fault}
-use Rattle.loader.specs.Places.{placedOf, indexedOf}
+use Rattle.loader.specs.declared.arguments.WordOrFault.{WordOrFault}
+use Rattle.loader.specs.declared.arguments.WordOrFault.the-variants.{Word, Fault}
+use Rattle.loader.specs.Places.{wordOrFaultOf, indexedOf}
 
 -- THE FIRST LETTERS
 pub special-choice : (w : List ℕ) →
@@ -108,11 +108,11 @@ barred p form make h (some a) = simp (h a)
 -- A register or a cell: what is lost above the cap is no index below the count.
 module _ (p : Parameters) (form kind count : ℕ) (make : ℕ → Argument) (few : count ≤ maxCells) where
   index-placed : ((v : ℕ) → allows form (make v) ≡ true) → ((v : ℕ) → isWithin p (make v) ≡ ltb v count) →
-      ((v : ℕ) → argumentWord (make v) ≡ wordOf kind v) → (o : Option ℕ) → indexedOf kind count (capped o) ≡ placedOf (placed p form (mapped make o))
+      ((v : ℕ) → argumentWord (make v) ≡ wordOf kind v) → (o : Option ℕ) → indexedOf kind count (capped o) ≡ wordOrFaultOf (placed p form (mapped make o))
   index-placed a i e none = refl
   index-placed a i e (some v) = go (decLt v count)
     where
-      go : Dec (v < count) → indexedOf kind count (capped (some v)) ≡ placedOf (placed p form (some (make v)))
+      go : Dec (v < count) → indexedOf kind count (capped (some v)) ≡ wordOrFaultOf (placed p form (some (make v)))
       go (yes l) = let q : min (2 ^ 30) v ≡ v = omega arith in simp (q, a v, i v, lt-ltb v count l, e v)
       go (no g) =
           let h : count ≤ min (2 ^ 30) v = omega arith in
@@ -120,7 +120,7 @@ module _ (p : Parameters) (form kind count : ℕ) (make : ℕ → Argument) (few
           simp (a v, i v, le-ltb v count k, le-ltb (min (2 ^ 30) v) count h)
 
 -- What is read as a number, at a place that allows one.
-abbrev pub numbered : Reading → Placed
+abbrev pub numbered : Reading → WordOrFault
 numbered NotANumber = Fault 13
 numbered (Number z) = Word (wordOf numberKind (numberBits z))
 numbered Outside = Fault 14
@@ -131,7 +131,7 @@ module _ (p : Parameters) (form : ℕ) where
   register-barred h o = barred p form register (λ v. ne-eqb _ _ h) o
 
   pub register-placed : form % 2 ≡ 1 → p .n ≤ maxCells → (o : Option ℕ) →
-      indexedOf registerKind (p .n) (capped o) ≡ placedOf (placed p form (mapped register o))
+      indexedOf registerKind (p .n) (capped o) ≡ wordOrFaultOf (placed p form (mapped register o))
   unfolding allows isWithin
   register-placed h l o = index-placed p form registerKind (p .n) register l (λ v. eq-eqb _ _ h) (λ v. refl) (λ v. refl) o
 
@@ -140,7 +140,7 @@ module _ (p : Parameters) (form : ℕ) where
   direct-barred h o = barred p form direct (λ v. ne-eqb _ _ h) o
 
   pub direct-placed : form / 4 % 2 ≡ 1 → p .b ≤ maxCells → (o : Option ℕ) →
-      indexedOf directKind (p .b) (capped o) ≡ placedOf (placed p form (mapped direct o))
+      indexedOf directKind (p .b) (capped o) ≡ wordOrFaultOf (placed p form (mapped direct o))
   unfolding allows isWithin
   direct-placed h l o = index-placed p form directKind (p .b) direct l (λ v. eq-eqb _ _ h) (λ v. refl) (λ v. refl) o
 
@@ -156,17 +156,17 @@ module _ (p : Parameters) (form : ℕ) where
   unfolding allows
   number-barred h o = barred p form literal (λ v. ne-eqb _ _ h) o
 
-  number-placed : form / 8 % 2 ≡ 1 → (o : Option ℤ) → numbered (readingOf (limit (p .k)) o) ≡ placedOf (placed p form (mapped literal o))
+  number-placed : form / 8 % 2 ≡ 1 → (o : Option ℤ) → numbered (readingOf (limit (p .k)) o) ≡ wordOrFaultOf (placed p form (mapped literal o))
   unfolding allows isWithin
   number-placed h none = refl
   number-placed h (some z) = simp h (go (inRange (limit (p .k)) z))
     where
-      go : (b : Bool) → numbered (cond b (Number z) Outside) ≡ placedOf (cond b (fine (wordOf numberKind (numberBits z))) (fault 14))
+      go : (b : Bool) → numbered (cond b (Number z) Outside) ≡ wordOrFaultOf (cond b (fine (wordOf numberKind (numberBits z))) (fault 14))
       go true = refl
       go false = refl
 
   pub number-read : form / 8 % 2 ≡ 1 → {m : ℕ} → m ≡ limit (p .k) → (o : Option ℤ) {r : Reading} → r ≡ readingOf m o →
-      numbered r ≡ placedOf (placed p form (mapped literal o))
+      numbered r ≡ wordOrFaultOf (placed p form (mapped literal o))
   number-read h e o q = ap numbered q ∙ ap (λ (m : ℕ). numbered (readingOf m o)) e ∙ number-placed h o
 
 -- The word of a number, as the code works it out.

@@ -19,8 +19,8 @@ use Rattle.image.proofs.FitLaws.{arePacked, rows-packable}
 use Rattle.text.specs.Parts.{part}
 use Rattle.text.specs.Words.{NextWord}
 use Rattle.text.proofs.Walks.{first-word}
-use Rattle.loader.specs.declared.arguments.Placed.the-variants.{Word, Fault}
-use Rattle.loader.specs.Places.{placedOf}
+use Rattle.loader.specs.declared.arguments.WordOrFault.the-variants.{Word, Fault}
+use Rattle.loader.specs.Places.{wordOrFaultOf}
 use Rattle.loader.specs.Lines.{formCount, counted}
 
 -- PACKED FORMS
@@ -114,11 +114,11 @@ line-known p w ws h = simp (lineCell, ne-eqb _ _ h) (go (eqb (length ws) (length
 
 -- THE LOOP
 -- A word or a fault that was found is that of the definition.
-placed-word : (o : Checked ℕ) (x : ℕ) → placedOf o ≡ Word x → o ≡ fine x
+placed-word : (o : Checked ℕ) (x : ℕ) → wordOrFaultOf o ≡ Word x → o ≡ fine x
 placed-word (fine y) x e = cc
 placed-word (fault k) x e = let z : _≡_ {A = ℕ} 0 1 = cc in absurd (omega arith)
 
-placed-fault : (o : Checked ℕ) (k : ℕ) → placedOf o ≡ Fault k → o ≡ fault k
+placed-fault : (o : Checked ℕ) (k : ℕ) → wordOrFaultOf o ≡ Fault k → o ≡ fault k
 placed-fault (fine y) k e = let z : _≡_ {A = ℕ} 0 1 = cc in absurd (omega arith)
 placed-fault (fault j) k e = cc
 
@@ -236,7 +236,7 @@ module _ (p : Parameters) (n : ℕ) (l : List ℕ) (from : ℕ) where
       few-others : i + 1 + length (left h .others) ≤ 3
       few-others = omega (arith, s .few, ap length (left h .is))
 
-      pub at-fault : (k : ℕ) → placedOf (placed p (rest % 16) (argument (part a b l))) ≡ Fault k →
+      pub at-fault : (k : ℕ) → wordOrFaultOf (placed p (rest % 16) (argument (part a b l))) ≡ Fault k →
           counted p n [] (rowOf n .forms) (words (drop from l)) ≡ cond (eqb (length (words (drop b l))) (formCount (rest / 16))) (fault k) (fault 12)
       at-fault k e =
           let others = left h .others in
@@ -245,7 +245,7 @@ module _ (p : Parameters) (n : ℕ) (l : List ℕ) (from : ℕ) where
           ∙ counted-fault p n (s .done) (rest % 16) others (part a b l) (words (drop b l)) k (placed-fault _ k e)
           ∙ ap (λ (m : ℕ). cond (eqb (length (words (drop b l))) m) (fault k) (fault 12)) (sym q)
 
-      pub at-word : (x : ℕ) → placedOf (placed p (rest % 16) (argument (part a b l))) ≡ Word x → Standing p n l from (set slots i x) b (rest / 16) (i + 1)
+      pub at-word : (x : ℕ) → wordOrFaultOf (placed p (rest % 16) (argument (part a b l))) ≡ Word x → Standing p n l from (set slots i x) b (rest / 16) (i + 1)
       at-word x e =
           let others = left h .others in
           record {

@@ -7,7 +7,7 @@ ghost use Rattle.model.specs.Parameters.{limit, maxCells, Fit};
 ghost use Rattle.model.specs.Numbers.{mapped, natural, number};
 ghost use Rattle.model.specs.Words.{directKind, numberKind, wordOf, numberBits, register, literal};
 ghost use Rattle.model.specs.Load.{specialOf, afterD, argument, placed};
-ghost use Rattle.loader.specs.Places.{indexedOf, placedOf};
+ghost use Rattle.loader.specs.Places.{indexedOf, wordOrFaultOf};
 use crate::names::same_word;
 use model::Parameters;
 use model::words::DIRECT;
@@ -28,7 +28,7 @@ use text::bytes::upper;
 const WORDS: i64 = 0x1_0000_0000;
 
 // The word of an argument, or its fault: 13 or 14.
-pub enum Placed {
+pub enum WordOrFault {
     Word(u32),
     Fault(u32),
 }
@@ -50,48 +50,48 @@ fn special(w: &[u8]) -> u32
 }
 
 // The word of this kind for the index that the digits say, of those below the count.
-fn indexed(kind: u32, count: u32, d: Digits) -> Placed
+fn indexed(kind: u32, count: u32, d: Digits) -> WordOrFault
     requires { ⌜ (kind ≤ directKind) × (count ≤ maxCells) ⌝ }
     ensures { λ r. ⌜ r ≡ indexedOf kind count d ⌝ }
 {
     match d {
-        Digits::Invalid => Placed::Fault(13),
+        Digits::Invalid => WordOrFault::Fault(13),
         Digits::Value(v) => {
             if v < count as u64 {
-                Placed::Word(kind * KIND + v as u32)
+                WordOrFault::Word(kind * KIND + v as u32)
             } else {
-                Placed::Fault(14)
+                WordOrFault::Fault(14)
             }
         }
     }
 }
 
 // R with digits.
-fn register_word(w: &[u8], form: u32, p: Parameters) -> Placed
+fn register_word(w: &[u8], form: u32, p: Parameters) -> WordOrFault
     requires { ⌜ Fit p ⌝ }
-    ensures { λ r. ⌜ r ≡ placedOf (placed p form (mapped register (natural (drop 1 (now (w .entry)))))) ⌝ }
+    ensures { λ r. ⌜ r ≡ wordOrFaultOf (placed p form (mapped register (natural (drop 1 (now (w .entry)))))) ⌝ }
 {
     if form % 2 == 1 {
         return indexed(REGISTER, p.n, read_digits(w, 1));
     }
-    Placed::Fault(13)
+    WordOrFault::Fault(13)
 }
 
 // DM with digits, of which the D is known.
-fn direct_word(w: &[u8], form: u32, p: Parameters) -> Placed
+fn direct_word(w: &[u8], form: u32, p: Parameters) -> WordOrFault
     requires { ⌜ Fit p ⌝ }
-    ensures { λ r. ⌜ r ≡ placedOf (placed p form (afterD (drop 1 (now (w .entry))))) ⌝ }
+    ensures { λ r. ⌜ r ≡ wordOrFaultOf (placed p form (afterD (drop 1 (now (w .entry))))) ⌝ }
 {
     if w.len() < 2 {
-        return Placed::Fault(13);
+        return WordOrFault::Fault(13);
     }
     if upper(w[1]) != b'M' {
-        return Placed::Fault(13);
+        return WordOrFault::Fault(13);
     }
     if form / 4 % 2 == 1 {
         return indexed(DIRECT, p.b, read_digits(w, 2));
     }
-    Placed::Fault(13)
+    WordOrFault::Fault(13)
 }
 
 // The word of a number.
@@ -106,28 +106,28 @@ fn literal_word(z: i32) -> u32
 }
 
 // A number.
-fn number_word(w: &[u8], form: u32, p: Parameters, m: u32) -> Placed
+fn number_word(w: &[u8], form: u32, p: Parameters, m: u32) -> WordOrFault
     requires { ⌜ Fit p × (m ≡ limit (p .k)) ⌝ }
-    ensures { λ r. ⌜ r ≡ placedOf (placed p form (mapped literal (number (now (w .entry))))) ⌝ }
+    ensures { λ r. ⌜ r ≡ wordOrFaultOf (placed p form (mapped literal (number (now (w .entry))))) ⌝ }
 {
     if form / 8 % 2 != 1 {
-        return Placed::Fault(13);
+        return WordOrFault::Fault(13);
     }
     let r = read_number(w, m);
     match r {
-        Reading::NotANumber => Placed::Fault(13),
-        Reading::Outside => Placed::Fault(14),
-        Reading::Number(z) => Placed::Word(literal_word(z)),
+        Reading::NotANumber => WordOrFault::Fault(13),
+        Reading::Outside => WordOrFault::Fault(14),
+        Reading::Number(z) => WordOrFault::Word(literal_word(z)),
     }
 }
 
 // The argument at a place of this form.
-pub fn argument_word(w: &[u8], form: u32, p: Parameters, m: u32) -> Placed
+pub fn argument_word(w: &[u8], form: u32, p: Parameters, m: u32) -> WordOrFault
     requires { ⌜ Fit p × (m ≡ limit (p .k)) ⌝ }
-    ensures { λ r. ⌜ r ≡ placedOf (placed p form (argument (now (w .entry)))) ⌝ }
+    ensures { λ r. ⌜ r ≡ wordOrFaultOf (placed p form (argument (now (w .entry)))) ⌝ }
 {
     if w.len() == 0 {
-        return Placed::Fault(13);
+        return WordOrFault::Fault(13);
     }
     let b = upper(w[0]);
     if b == b'R' {
@@ -141,7 +141,7 @@ pub fn argument_word(w: &[u8], form: u32, p: Parameters, m: u32) -> Placed
         return number_word(w, form, p, m);
     }
     if form / 2 % 2 == 1 {
-        return Placed::Word(FIRST_REGISTER + r);
+        return WordOrFault::Word(FIRST_REGISTER + r);
     }
-    Placed::Fault(13)
+    WordOrFault::Fault(13)
 }

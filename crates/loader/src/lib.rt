@@ -20,8 +20,8 @@ use crate::line::Parsed;
 use crate::line::parse_line;
 use crate::names::key_table;
 use crate::names::slot_table;
-use cells::limits::limit_of;
-use cells::limits::parameter_refusal;
+use bounds::limits::limit_of;
+use bounds::limits::parameter_refusal;
 use image::forms::form_table;
 use model::LoadReply;
 use model::Parameters;
@@ -41,7 +41,7 @@ fn refuse_line(text: &[u8], next: usize, i: usize, t: usize, k: u32) -> LoadRepl
 }
 
 // Four words from a place on.
-fn put_cell(image: &mut [u32], at: usize, head: u32, first: u32, second: u32, third: u32)
+fn write_cell(image: &mut [u32], at: usize, head: u32, first: u32, second: u32, third: u32)
     requires { ⌜ at + 4 ≤ length (now image) ⌝ }
     ensures { λ _. ⌜ now (image .exit) ≡ sets (now (image .entry)) at (head ∷ first ∷ second ∷ third ∷ []) ⌝ }
 {
@@ -86,7 +86,7 @@ fn parse_lines(
             }
             Parsed::Words(head, first, second, third) => {
                 if write {
-                    put_cell(image, 4 * i, head, first, second, third);
+                    write_cell(image, 4 * i, head, first, second, third);
                 }
             }
         }

@@ -11,7 +11,7 @@ ghost use Rattle.model.specs.Load.{words, fault, lineOf};
 ghost use Rattle.image.specs.Forms.{packed, formTable};
 ghost use Rattle.loader.specs.Keys.{keyTable, Slots};
 ghost use Rattle.loader.specs.Lines.{formCount, parsedOf, counted};
-use crate::arguments::Placed;
+use crate::arguments::WordOrFault;
 use crate::arguments::argument_word;
 use crate::names::find_name;
 use image::forms::forms_of;
@@ -89,10 +89,10 @@ fn parse_arguments(l: &[u8], from: usize, number: u32, forms: u32, p: Parameters
         rest = rest / 16;
         let placed = argument_word(&l[start..end], form, p, m);
         match placed {
-            Placed::Fault(k) => {
+            WordOrFault::Fault(k) => {
                 return fault_unless_miscounted(l, end, rest, k);
             }
-            Placed::Word(x) => {
+            WordOrFault::Word(x) => {
                 arguments[i] = x;
             }
         }

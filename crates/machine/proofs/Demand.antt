@@ -5,7 +5,7 @@ use mathlib.Core.Path.{_≡_, refl, sym, ap, _∙_}
 use Rattle.model.proofs.Demand.{demand3}
 use Rattle.model.proofs.Refusals.{start-number}
 use Rattle.model.specs.Calls.{Held, startChecks, Started, started, heldAfterStart, Granted}
-use Rattle.model.specs.Demand.{gives, leaves, Demand3}
+use Rattle.model.specs.Demand.{allGranted, heldAfterAll, Demand3}
 use Rattle.model.specs.Grants.{Call}
 use Rattle.model.specs.Step.{Environment, Memory, environmentOf}
 use Rattle.machine.specs.Chains.{Chain, nothing, called}
@@ -14,22 +14,22 @@ use Rattle.machine.proofs.CallLaws.{promised}
 
 -- What calls gave and left is what the definition gives and leaves.
 pub record AsDefined (e : Environment) (h : Held) (calls : List Call) (given : List Granted) (last : Held) : Type 0 where
-  pub gave : given ≡ gives e h calls
-  pub left : last ≡ leaves e h calls
+  pub gave : given ≡ allGranted e h calls
+  pub left : last ≡ heldAfterAll e h calls
 
 module _ (e : Environment) where
   -- It is so of every chain.
-  pub chain-gives : {h : Held} {calls : List Call} {given : List Granted} {last : Held} → Chain e h calls given last →
+  pub chain-granted : {h : Held} {calls : List Call} {given : List Granted} {last : Held} → Chain e h calls given last →
       AsDefined e h calls given last
-  unfolding gives leaves
-  chain-gives nothing = record { gave = refl; left = refl }
-  chain-gives (called {x} g ch) =
-      let t = chain-gives ch in
+  unfolding allGranted heldAfterAll
+  chain-granted nothing = record { gave = refl; left = refl }
+  chain-granted (called {x} g ch) =
+      let t = chain-granted ch in
       record { gave = rw (← g .given) (ap (λ (l : List Granted). x ∷ l) (t .gave)); left = rw (← g .given) (t .left) }
 
   -- Every list of calls has a chain, so that the contract of grant asks nothing that cannot be met.
-  pub some-chain : (h : Held) (calls : List Call) → Chain e h calls (gives e h calls) (leaves e h calls)
-  unfolding gives leaves
+  pub some-chain : (h : Held) (calls : List Call) → Chain e h calls (allGranted e h calls) (heldAfterAll e h calls)
+  unfolding allGranted heldAfterAll
   some-chain h [] = nothing
   some-chain h (c ∷ cs) = called (promised e h c refl) (some-chain _ cs)
 
@@ -47,6 +47,6 @@ pub calls-demand3 : (e : Environment) (m : Memory) (x : Started) →
     Demand3 e calls given last
 calls-demand3 e m x s accepted calls given last ch =
     let is = s .given ∙ input-unread e m in
-    let t = chain-gives e (rw is at ch) in
+    let t = chain-granted e (rw is at ch) in
     let h = sym (start-number e m) ∙ ap (λ (y : Started). y .reply .refusal) (sym is) ∙ accepted in
     rw (t .gave, t .left) (demand3 e m calls h)

@@ -20,8 +20,8 @@ use Rattle.model.specs.Parameters.{limit, inRange}
 use Rattle.model.specs.Step.{environmentOf}
 use Rattle.model.specs.declared.Parameters.{Parameters}
 use Rattle.model.specs.declared.Record.{Record}
-use Rattle.cells.proofs.Integers.{mag-minus}
-use Rattle.machine.specs.Checks.{headFits, numbersFit}
+use Rattle.bounds.proofs.Integers.{mag-minus}
+use Rattle.machine.specs.Checks.{headFits, fieldsFit}
 
 -- VALUES
 -- One value more. The code reads it as its 32 bits.
@@ -58,32 +58,32 @@ module _ (b s : ℕ) (shr : ℤ) (hb : b < 2 ^ 32) (hs : s < 2 ^ 32) (f : SFits 
 
 -- THE NUMBERS, test by test.
 module _ (r : Record) (input : ℕ) where
-  pub by-iar : r .parameters .t < r .iar → false ≡ numbersFit r input
+  pub by-iar : r .parameters .t < r .iar → false ≡ fieldsFit r input
   by-iar h = rw (lt-leb _ _ h)
 
   module _ (iar : r .iar ≤ r .parameters .t) where
-    pub by-ircr : 3 < r .ircr → false ≡ numbersFit r input
+    pub by-ircr : 3 < r .ircr → false ≡ fieldsFit r input
     by-ircr h = rw (le-leb _ _ iar, lt-leb _ _ h)
 
     module _ (ircr : r .ircr ≤ 3) where
       abbrev heads : Bool
       heads = headFits (r .parameters .b) (r .parameters .s) (r .shr)
 
-      behind : numbersFit r input ≡ (heads && (leb (r .spent) (r .granted) && (leb (r .granted) 1_000_000_000_000_000 && (leb (r .place) input && true))))
+      behind : fieldsFit r input ≡ (heads && (leb (r .spent) (r .granted) && (leb (r .granted) 1_000_000_000_000_000 && (leb (r .place) input && true))))
       behind = rw (le-leb _ _ iar, le-leb _ _ ircr) (sym (and-assoc (leZ (pos (r .parameters .b) -ℤ pos 1) (r .shr)) _ _))
 
-      pub by-head : heads ≡ false → false ≡ numbersFit r input
+      pub by-head : heads ≡ false → false ≡ fieldsFit r input
       by-head h = sym (behind ∙ rw h)
 
       module _ (head : heads ≡ true) where
-        pub by-spent : r .granted < r .spent → false ≡ numbersFit r input
+        pub by-spent : r .granted < r .spent → false ≡ fieldsFit r input
         by-spent h = sym (behind ∙ rw (head, lt-leb _ _ h))
 
         module _ (spent : r .spent ≤ r .granted) where
-          pub by-granted : 1_000_000_000_000_000 < r .granted → false ≡ numbersFit r input
+          pub by-granted : 1_000_000_000_000_000 < r .granted → false ≡ fieldsFit r input
           by-granted h = sym (behind ∙ rw (head, le-leb _ _ spent, lt-leb _ _ h))
 
-          pub by-place : r .granted ≤ 1_000_000_000_000_000 → leb (r .place) input ≡ numbersFit r input
+          pub by-place : r .granted ≤ 1_000_000_000_000_000 → leb (r .place) input ≡ fieldsFit r input
           by-place h = sym (behind ∙ rw (head, le-leb _ _ spent, le-leb _ _ h, and-true))
 
 -- THE RECORD: its numbers, the registers and the data cells.
@@ -98,7 +98,7 @@ module _ (image input : List ℕ) (held : Held) where
   fits = recordFits (environmentOf p image input) (accountOf held)
 
   abbrev numbers : Bool
-  numbers = numbersFit (held .rec) (length input)
+  numbers = fieldsFit (held .rec) (length input)
 
   parts : fits ≡ (numbers && (allInRange (limit k) (held .memory .registers) && (allInRange (limit k) (held .memory .cells) && true)))
   unfolding recordFits

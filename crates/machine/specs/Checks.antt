@@ -14,8 +14,8 @@ abbrev pub headFits : (b s : ℕ) → ℤ → Bool
 headFits b s shr = leZ (pos b -ℤ pos 1) shr && leZ shr (pos s -ℤ pos 1)
 
 -- A record passes its tests, with an input of this length. They do not look at the memory.
-abbrev pub numbersFit : Record → (input : ℕ) → Bool
-numbersFit r input = allPass (recordTests (r .parameters) input (accountOf (asHeld r [] [])))
+abbrev pub fieldsFit : Record → (input : ℕ) → Bool
+fieldsFit r input = allPass (recordTests (r .parameters) input (accountOf (asHeld r [] [])))
 
 -- What `grantChecks` of model asks of a grant's cycles.
 abbrev pub cyclesFit : (granted cycles : ℕ) → Bool

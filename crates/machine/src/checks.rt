@@ -6,12 +6,12 @@ ghost use Prim.Native.Nat.{ℕ, _≤_};
 ghost use lib.IntN.{ℤ};
 ghost use Rattle.model.specs.Parameters.{refusalOf, Fit};
 ghost use Rattle.model.specs.Calls.{asHeld, asCall, shapeChecks, memoryFits, startChecks, allInRange, recordFits, grantRefusal, accountOf};
-ghost use Rattle.cells.specs.Cells.{IsLimit};
+ghost use Rattle.bounds.specs.Bounds.{IsLimit};
 ghost use Rattle.model.specs.Step.{asMemory, environmentOf};
-ghost use Rattle.machine.specs.Checks.{headFits, numbersFit, cyclesFit};
-use cells::limits::limit_of;
-use cells::limits::parameter_refusal;
-use cells::ranges::in_range;
+ghost use Rattle.machine.specs.Checks.{headFits, fieldsFit, cyclesFit};
+use bounds::limits::limit_of;
+use bounds::limits::parameter_refusal;
+use bounds::ranges::in_range;
 use image::check::image_fits;
 use model::Parameters;
 use model::Record;
@@ -91,8 +91,8 @@ fn head_fits(b: u32, s: u32, shr: i64) -> bool
 }
 
 // The numbers of a record, with an input of this length.
-fn numbers_fit(rec: Record, input: usize) -> bool
-    ensures { λ r. ⌜ r ≡ numbersFit rec input ⌝ }
+fn fields_fit(rec: Record, input: usize) -> bool
+    ensures { λ r. ⌜ r ≡ fieldsFit rec input ⌝ }
 {
     if rec.parameters.t < rec.iar {
         return false;
@@ -117,7 +117,7 @@ fn record_fits(rec: Record, input: &[u8], registers: &[i32], cells: &[i32]) -> b
     requires { ⌜ Fit (rec .parameters) ⌝ }
     ensures { λ r. ⌜ ((image : List ℕ) → r ≡ recordFits (environmentOf (rec .parameters) image (now (input .entry))) (accountOf (asHeld rec (now (registers .entry)) (now (cells .entry))))) ⌝ }
 {
-    if !numbers_fit(rec, input.len()) {
+    if !fields_fit(rec, input.len()) {
         return false;
     }
     let m = limit_of(rec.parameters.k);

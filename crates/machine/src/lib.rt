@@ -14,7 +14,7 @@ ghost use Rattle.operands.specs.Cores.{stateIn};
 ghost use Rattle.machine.specs.Contracts.{StartIs, GrantIs};
 use crate::checks::grant_refusal;
 use crate::checks::start_refusal;
-use cells::limits::limit_of;
+use bounds::limits::limit_of;
 use effects::clear;
 use engine::run;
 use model::GrantReply;

@@ -13,7 +13,7 @@ use Rattle.model.specs.Parameters.{Fit}
 use Rattle.model.specs.Words.{Cell}
 use Rattle.model.specs.Instructions.{Multiplier, one, byRegisters, byCells, rowOf, directs, times, costOf}
 use Rattle.model.specs.Machine.{Priced, stops, goes}
-use Rattle.model.specs.Grants.{Standing, advance, lookFrom, run}
+use Rattle.model.specs.Grants.{RunState, advance, lookFrom, run}
 use Rattle.model.specs.Step.{Environment, State, Tak, currentCell, stepCost}
 use Rattle.model.proofs.Fits.{both, Limits, limits}
 use Rattle.model.proofs.Rows.{row-rule}
@@ -48,7 +48,7 @@ unfolding stepCost
 priced e f s r = cost-pos (e .parameters) f (currentCell e s)
 
 -- The grant loop of the TAK machine: look; stop, or step and go on.
-pub tak-run : (e : Environment) → Fit (e .parameters) → (granted room : ℕ) (a : Standing State) →
+pub tak-run : (e : Environment) → Fit (e .parameters) → (granted room : ℕ) (a : RunState State) →
     run (Tak e) granted room a
     ≡ elim (lookFrom (Tak e) granted room a) [
       | stops x ↦ record { ending = x; at = a }

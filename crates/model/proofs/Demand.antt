@@ -10,7 +10,7 @@ use Rattle.model.specs.Machine.{Machine}
 use Rattle.model.specs.Grants.{Call, Reply, Account, Result, grant}
 use Rattle.model.specs.Step.{Environment, Memory, State, Tak}
 use Rattle.model.specs.Calls.{Held, heldAfterStart, startChecks, started, Granted, granted, grantedBy, memoryOf, recordOf, grantRefusal}
-use Rattle.model.specs.Demand.{gives, leaves, replyOf, joinedOutputs, IsAfter, Demand3}
+use Rattle.model.specs.Demand.{allGranted, heldAfterAll, replyOf, joinedOutputs, IsAfter, Demand3}
 use Rattle.model.proofs.Fits.{start-accepted}
 use Rattle.model.proofs.Costs.{priced}
 use Rattle.model.proofs.GrantKeeps.{started-accepted}
@@ -42,15 +42,15 @@ module _ (e : Environment) where
   check = grantRefusal e
 
   -- A list of grants over records and memory is one over accounts.
-  gives-is : (calls : List Call) (a : Account State) → gives e (heldOf p a) calls ≡ map (grantedBy p) (results M check a calls)
-  unfolding gives results granted
-  gives-is [] a = refl
-  gives-is (c ∷ cs) a = ap (λ (l : List Granted). grantedBy p (grant M check a c) ∷ l) (gives-is cs (grant M check a c .account))
+  all-granted-is : (calls : List Call) (a : Account State) → allGranted e (heldOf p a) calls ≡ map (grantedBy p) (results M check a calls)
+  unfolding allGranted results granted
+  all-granted-is [] a = refl
+  all-granted-is (c ∷ cs) a = ap (λ (l : List Granted). grantedBy p (grant M check a c) ∷ l) (all-granted-is cs (grant M check a c .account))
 
-  leaves-is : (calls : List Call) (a : Account State) → leaves e (heldOf p a) calls ≡ heldOf p (final M check a calls)
-  unfolding leaves final granted
-  leaves-is [] a = refl
-  leaves-is (c ∷ cs) a = leaves-is cs (grant M check a c .account)
+  held-after-all-is : (calls : List Call) (a : Account State) → heldAfterAll e (heldOf p a) calls ≡ heldOf p (final M check a calls)
+  unfolding heldAfterAll final granted
+  held-after-all-is [] a = refl
+  held-after-all-is (c ∷ cs) a = held-after-all-is cs (grant M check a c .account)
 
   -- What a list leaves, read as an account, and what is after m instructions in its parts.
   to-stands : (m : ℕ) (a : Account State) (out out′ : List ℤ) → out ≡ out′ → IsAfter e m (heldOf p a) out → lists.Stands M m a out′
@@ -79,16 +79,16 @@ module _ (e : Environment) where
     abbrev res : List (Result State)
     res = results M check (start M) calls
 
-    outs-is : joinedOutputs (gives e (heldOf p (start M)) calls) ≡ joined res
-    outs-is = rw (gives-is calls (start M)) (joined-is p res)
+    outs-is : joinedOutputs (allGranted e (heldOf p (start M)) calls) ≡ joined res
+    outs-is = rw (all-granted-is calls (start M)) (joined-is p res)
 
-    replied-is : map replyOf (gives e (heldOf p (start M)) calls) ≡ replies res
-    replied-is = rw (gives-is calls (start M)) (replies-is p res)
+    replied-is : map replyOf (allGranted e (heldOf p (start M)) calls) ≡ replies res
+    replied-is = rw (all-granted-is calls (start M)) (replies-is p res)
 
     translate : lists.Demand3 M check calls →
-        Demand3 e calls (gives e (heldOf p (start M)) calls) (leaves e (heldOf p (start M)) calls)
+        Demand3 e calls (allGranted e (heldOf p (start M)) calls) (heldAfterAll e (heldOf p (start M)) calls)
     translate d =
-        let held = leaves-is calls (start M) in
+        let held = held-after-all-is calls (start M) in
         record {
           m = d .m;
           is-after = rw held (to-after (d .m) _ _ _ outs-is (d .stands));
@@ -103,7 +103,7 @@ module _ (e : Environment) where
 -- DEMAND 3. After an accepted start, with any input, for every list of grants.
 pub demand3 : (e : Environment) (m : Memory) (calls : List Call) → refusalOf (startChecks e m) ≡ 0 →
     let h = heldAfterStart (started e m) in
-    Demand3 e calls (gives e h calls) (leaves e h calls)
+    Demand3 e calls (allGranted e h calls) (heldAfterAll e h calls)
 unfolding start
 demand3 e m calls h =
     let fit = start-accepted e m h .fit in

@@ -10,7 +10,7 @@ use borrow.Author.Tests.{leb-true, le-leb}
 use Rattle.model.specs.Parameters.{Fit, refusalOf}
 use Rattle.model.specs.Images.{imageFits}
 use Rattle.model.specs.Machine.{goes}
-use Rattle.model.specs.Grants.{Call, Account, Standing, handBack, refuse, advance, lookFrom, run, accept, grant}
+use Rattle.model.specs.Grants.{Call, Account, RunState, handBack, refuse, advance, lookFrom, run, accept, grant}
 use Rattle.model.specs.Step.{Environment, Memory, State, Tak, freshState}
 use Rattle.model.specs.Calls.{freshRecord, startChecks, freshMemory, Started, started, heldAfterStart, recordTests, memoryTests, memoryOf, recordFits, grantRefusal, accountOf}
 use Rattle.model.proofs.Fits.{all-true, all-pass, Sized, GrantFits, start-accepted, grant-accepted}
@@ -23,12 +23,12 @@ use Rattle.model.proofs.Keeps.{Sound, step-keeps, fresh-sound}
 -- THE LOOP
 module _ (e : Environment) (granted before : ℕ) where
   -- The state is sound, no more is spent than granted, and no less than before.
-  record Keeping (a : Standing State) : Type 0 where
+  record Keeping (a : RunState State) : Type 0 where
     state : Sound e (a .state)
     within : a .spent ≤ granted
     rises : before ≤ a .spent
 
-  advance-keeps : Fit (e .parameters) → imageFits (e .parameters) (e .image) ≡ true → (room : ℕ) (a : Standing State) → Keeping a →
+  advance-keeps : Fit (e .parameters) → imageFits (e .parameters) (e .image) ≡ true → (room : ℕ) (a : RunState State) → Keeping a →
       lookFrom (Tak e) granted room a ≡ goes → Keeping (advance (Tak e) a)
   unfolding advance
   advance-keeps f i room a k h =

@@ -105,11 +105,11 @@ module _ {e : Environment} (l : Limits (e .parameters)) {s : State} (h : Sound e
       (length-set (s .cells) i v ∙ h .cell-count)
 
 -- EFFECTS: a state that is sound, or a code that is at most 3.
-abbrev Lands : Environment → Effect → Type 0
-Lands e (succeeds s) = Sound e s
-Lands e (fails k) = k ≤ 3
+abbrev Preserves : Environment → Effect → Type 0
+Preserves e (succeeds s) = Sound e s
+Preserves e (fails k) = k ≤ 3
 
-settled-sound : (e : Environment) (s : State) → Sound e s → (f : Effect) → Lands e f → Sound e (settled s f)
+settled-sound : (e : Environment) (s : State) → Sound e s → (f : Effect) → Preserves e f → Sound e (settled s f)
 settled-sound e s h (succeeds s′) k = ircr-sound k 0 (omega arith)
 settled-sound e s h (fails c) k = ircr-sound h c k
 
@@ -158,25 +158,25 @@ module _ (e : Environment) (l : Limits (e .parameters)) (s : State) (g : Going e
       by-cond (Going e) (eqb (kindOf w) 1) _ _ (λ q. record { sound = set-register l (g .sound) (contentOf w) v h; within = g .within })
       (λ q. by-cond (Going e) (eqb (kindOf w) 2) _ _ (λ q. record { sound = set-cell l (g .sound) (contentOf w) v h; within = g .within }) (λ q. g))
 
-  next-lands : Lands e (next s)
-  next-lands = iar-sound (g .sound) (s .iar + 1) (omega arith)
+  next-preserves : Preserves e (next s)
+  next-preserves = iar-sound (g .sound) (s .iar + 1) (omega arith)
 
-  jump-lands : (z : ℤ) → Lands e (jumpTo e z s)
+  jump-preserves : (z : ℤ) → Preserves e (jumpTo e z s)
   unfolding jumpTo
-  jump-lands z =
-      by-cond (Lands e) (nonNeg z && ltb (natAbs z) (e .parameters .t)) _ _ (λ h. iar-sound (g .sound) (natAbs z) (target h)) (λ h. omega arith)
+  jump-preserves z =
+      by-cond (Preserves e) (nonNeg z && ltb (natAbs z) (e .parameters .t)) _ _ (λ h. iar-sound (g .sound) (natAbs z) (target h)) (λ h. omega arith)
     where
       target : (nonNeg z && ltb (natAbs z) (e .parameters .t)) ≡ true → natAbs z ≤ e .parameters .t
       target h = omega (arith, ltb-true (natAbs z) (e .parameters .t) (both (nonNeg z) _ h .1))
 
 module _ (e : Environment) (l : Limits (e .parameters)) (s : State) (g : Going e s) where
-  stores-lands : (w : ℕ) (a : Answer) → Good (limitOf e) a → Lands e (stores w s a)
-  stores-lands w (value v) h = next-lands e l (store w v s) (store-going e l s g w v h)
-  stores-lands w (code k) h = h .1
+  stores-preserves : (w : ℕ) (a : Answer) → Good (limitOf e) a → Preserves e (stores w s a)
+  stores-preserves w (value v) h = next-preserves e l (store w v s) (store-going e l s g w v h)
+  stores-preserves w (code k) h = h .1
 
-  push-lands : (w : ℕ) → Readable (e .parameters) w → Lands e (push (e .parameters) w s)
+  push-preserves : (w : ℕ) → Readable (e .parameters) w → Preserves e (push (e .parameters) w s)
   unfolding push
-  push-lands w r = by-cond (Lands e) (eqZ (sucℤ (s .shr)) (pos (e .parameters .s))) _ _ (λ h. omega arith) (λ h. go (sound h))
+  push-preserves w r = by-cond (Preserves e) (eqZ (sucℤ (s .shr)) (pos (e .parameters .s))) _ _ (λ h. omega arith) (λ h. go (sound h))
     where
       raised : State
       raised = withSHR (sucℤ (s .shr)) s
@@ -186,67 +186,67 @@ module _ (e : Environment) (l : Limits (e .parameters)) (s : State) (g : Going e
           shr-sound (g .sound) (sucℤ (s .shr)) (raised-low (pos (e .parameters .b) -ℤ pos 1) (s .shr) (g .sound .low))
           (raised-high (e .parameters .s) (s .shr) (g .sound .high) h)
 
-      go : Sound e raised → Lands e (next (withCells (set (s .cells) (natAbs (sucℤ (s .shr))) (valueOf raised w)) raised))
+      go : Sound e raised → Preserves e (next (withCells (set (s .cells) (natAbs (sucℤ (s .shr))) (valueOf raised w)) raised))
       go h =
-          next-lands e l _
+          next-preserves e l _
           (record { sound = set-cell l h (natAbs (sucℤ (s .shr))) (valueOf raised w) (value-mag e l raised h w r); within = g .within })
 
-  pop-lands : (w : ℕ) → Lands e (pop (e .parameters) w s)
+  pop-preserves : (w : ℕ) → Preserves e (pop (e .parameters) w s)
   unfolding pop
-  pop-lands w =
-      by-cond (Lands e) (eqZ (s .shr) (pos (e .parameters .b) -ℤ pos 1)) _ _ (λ h. omega arith)
+  pop-preserves w =
+      by-cond (Preserves e) (eqZ (s .shr) (pos (e .parameters .b) -ℤ pos 1)) _ _ (λ h. omega arith)
       (λ h. go (store-going e l s g w v (getD-range (limitOf e) (s .cells) (natAbs (s .shr)) (one e l) (g .sound .cells))) h)
     where
       v : ℤ
       v = getD (s .cells) (natAbs (s .shr)) (pos 0)
 
       go : Going e (store w v s) → eqZ (s .shr) (pos (e .parameters .b) -ℤ pos 1) ≡ false →
-          Lands e (next (withSHR (predℤ (s .shr)) (store w v s)))
+          Preserves e (next (withSHR (predℤ (s .shr)) (store w v s)))
       go k h =
           let j = lowered-low (pos (e .parameters .b) -ℤ pos 1) (s .shr) (g .sound .low) h in
           let i = lowered-high (s .shr) (pos (e .parameters .s) -ℤ pos 1) (g .sound .high) in
-          next-lands e l _ (record { sound = shr-sound (k .sound) (predℤ (s .shr)) j i; within = k .within })
+          next-preserves e l _ (record { sound = shr-sound (k .sound) (predℤ (s .shr)) j i; within = k .within })
 
 module _ (e : Environment) (l : Limits (e .parameters)) (s : State) (g : Going e s) where
-  input-lands : (w : ℕ) → Lands e (input e w s)
+  input-preserves : (w : ℕ) → Preserves e (input e w s)
   unfolding input
-  input-lands w =
+  input-preserves w =
       let rest = drop (s .place) (e .input) in
       let token = tokenOf (drop (blanksOf rest) rest) in
       let placed = place-sound (g .sound) _ (place-le (e .input) (s .place) (g .sound .place)) in
-      stores-lands e l _ (record { sound = placed; within = g .within }) w (inputAnswer (limitOf e) token)
+      stores-preserves e l _ (record { sound = placed; within = g .within }) w (inputAnswer (limitOf e) token)
       (input-good (limitOf e) (one e l) token)
 
-  execute-lands : (op : Operation) (c : Cell) → WritesRange (limitOf e) op → CellReadable (e .parameters) c → Lands e (execute e op c s)
+  execute-preserves : (op : Operation) (c : Cell) → WritesRange (limitOf e) op → CellReadable (e .parameters) c → Preserves e (execute e op c s)
   unfolding execute
-  execute-lands clearRegisters c k r =
+  execute-preserves clearRegisters c k r =
       let zeros = replicate-range (limitOf e) (e .parameters .n) (one e l) in
       let count = length-replicate (e .parameters .n) (pos 0) in
-      next-lands e l _ (record { sound = registers-sound (g .sound) _ zeros count; within = g .within })
-  execute-lands clearCells c k r =
+      next-preserves e l _ (record { sound = registers-sound (g .sound) _ zeros count; within = g .within })
+  execute-preserves clearCells c k r =
       let zeros = replicate-range (limitOf e) (e .parameters .s) (one e l) in
       let count = length-replicate (e .parameters .s) (pos 0) in
-      next-lands e l _ (record { sound = cells-sound (g .sound) _ zeros count; within = g .within })
-  execute-lands dumpRegisters c k r = next-lands e l s g
-  execute-lands dumpCells c k r = next-lands e l s g
-  execute-lands inputs c k r = input-lands (c .first)
-  execute-lands outputs c k r = next-lands e l s g
-  execute-lands pushes c k r = push-lands e l s g (c .first) (r .first)
-  execute-lands pops c k r = pop-lands e l s g (c .first)
-  execute-lands skips c k r = jump-lands e l s g _
-  execute-lands idles c k r = next-lands e l s g
-  execute-lands (writes to f) c k r =
+      next-preserves e l _ (record { sound = cells-sound (g .sound) _ zeros count; within = g .within })
+  execute-preserves dumpRegisters c k r = next-preserves e l s g
+  execute-preserves dumpCells c k r = next-preserves e l s g
+  execute-preserves inputs c k r = input-preserves (c .first)
+  execute-preserves outputs c k r = next-preserves e l s g
+  execute-preserves pushes c k r = push-preserves e l s g (c .first) (r .first)
+  execute-preserves pops c k r = pop-preserves e l s g (c .first)
+  execute-preserves skips c k r = jump-preserves e l s g _
+  execute-preserves idles c k r = next-preserves e l s g
+  execute-preserves (writes to f) c k r =
       let x = value-mag e l s (g .sound) (c .first) (r .first) in
       let y = value-mag e l s (g .sound) (c .second) (r .second) in
-      stores-lands e l s g (argumentAt to c) (f (limitOf e) (valueOf s (c .first)) (valueOf s (c .second)))
+      stores-preserves e l s g (argumentAt to c) (f (limitOf e) (valueOf s (c .first)) (valueOf s (c .second)))
       (k (valueOf s (c .first)) (valueOf s (c .second)) x y)
-  execute-lands (jumps test) c k r =
-      by-cond (Lands e) (test (valueOf s (c .second)) (valueOf s (c .third))) _ _ (λ h. jump-lands e l s g (valueOf s (c .first)))
-      (λ h. next-lands e l s g)
-  execute-lands (jumpsOn b) c k r =
-      by-cond (Lands e) (isBoolean (valueOf s (c .second))) _ _
-      (λ h. by-cond (Lands e) (Bool·beq (isTrue (valueOf s (c .second))) b) _ _ (λ h. jump-lands e l s g (valueOf s (c .first)))
-      (λ h. next-lands e l s g)) (λ h. omega arith)
+  execute-preserves (jumps test) c k r =
+      by-cond (Preserves e) (test (valueOf s (c .second)) (valueOf s (c .third))) _ _ (λ h. jump-preserves e l s g (valueOf s (c .first)))
+      (λ h. next-preserves e l s g)
+  execute-preserves (jumpsOn b) c k r =
+      by-cond (Preserves e) (isBoolean (valueOf s (c .second))) _ _
+      (λ h. by-cond (Preserves e) (Bool·beq (isTrue (valueOf s (c .second))) b) _ _ (λ h. jump-preserves e l s g (valueOf s (c .first)))
+      (λ h. next-preserves e l s g)) (λ h. omega arith)
 
 -- A state that runs: IRCR is 0, IAR is not T, and its cell is not empty.
 status-running : (a b c : Bool) → cond a (cond (b || c) Status.ended running) Status.failed ≡ running →
@@ -276,7 +276,7 @@ step-keeps e f i s h r =
     let w : s .iar < e .parameters .t = omega (arith, h .iar, u .iar) in
     let c = cell-fits (e .parameters) (e .parameters .t) (e .image) (s .iar) i w (u .cell) in
     settled-sound e s h (execute e (currentOperation e s) (currentCell e s) s)
-    (execute-lands e l s (record { sound = h; within = w }) (currentOperation e s) (currentCell e s)
+    (execute-preserves e l s (record { sound = h; within = w }) (currentOperation e s) (currentCell e s)
     (row-range (e .parameters .k) (currentCell e s .head) (l .k-low)) (cell-readable (e .parameters) (currentCell e s) c))
 
 pub fresh-sound : (e : Environment) → Fit (e .parameters) → Sound e (freshState (e .parameters))

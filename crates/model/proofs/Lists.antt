@@ -10,7 +10,7 @@ use lib.ListN.{take}
 use Rattle.model.specs.declared.Ending.{Ending}
 use Rattle.model.specs.declared.Ending.the-variants.{OutputFull}
 use Rattle.model.specs.Machine.{Machine, after, gathered, outputs, costs, Reaches, Largest, Priced}
-use Rattle.model.specs.Grants.{Account, Call, Result, Reply, lastEnding, accountAt, total, accept, refuse, grant, Works, nothing, refuses, accepts}
+use Rattle.model.specs.Grants.{Account, Call, Result, Reply, lastEnding, accountAt, total, accept, refuse, grant, Trace, nothing, refuses, accepts}
 use Rattle.model.proofs.Laws.{costs-inj, largest-none}
 use Rattle.model.proofs.One.{Accepted, accept-runs, runs-only}
 
@@ -67,8 +67,8 @@ module _ (M : Machine) where
       pub stands : Stands m (left calls) (joined (gave calls))
       pub only : (n : ℕ) → Stands n (left calls) (joined (gave calls)) → n ≡ m
       -- the replies are those that are worked out, and no others are
-      pub works : Works M refusal 0 0 calls (replies (gave calls)) m (total calls (replies (gave calls)))
-      pub replies-only : (rs : List Reply) (n g : ℕ) → Works M refusal 0 0 calls rs n g → rs ≡ replies (gave calls)
+      pub works : Trace M refusal 0 0 calls (replies (gave calls)) m (total calls (replies (gave calls)))
+      pub replies-only : (rs : List Reply) (n g : ℕ) → Trace M refusal 0 0 calls rs n g → rs ≡ replies (gave calls)
       -- the record's granted is that of the accepted grants together
       pub granted : (left calls) .granted ≡ total calls (replies (gave calls))
       -- with no accepted grant, or where the last one did not stop for a full output, m is the largest that the accepted grants pay for
@@ -80,10 +80,10 @@ module _ (M : Machine) where
       g′ : ℕ
       reaches : Reaches M n
       fits : costs M n ≤ g′
-      leaves : fin ≡ accountAt M n g′
+      heldAfterAll : fin ≡ accountAt M n g′
       outs : outputs M n ≡ outputs M m ++ joined res
       sum : g′ ≡ g + total calls (replies res)
-      works : Works M refusal m g calls (replies res) n g′
+      works : Trace M refusal m g calls (replies res) n g′
       largest : ¬ (lastEnding e (replies res) ≡ some OutputFull) → Largest M n g′
 
     then-accepted : (m g : ℕ) (e : Option Ending) (c : Call) (cs : List Call) (fin : Account St) (x : Result St) (res : List (Result St)) →
@@ -95,7 +95,7 @@ module _ (M : Machine) where
           g′ = t .g′;
           reaches = t .reaches;
           fits = t .fits;
-          leaves = t .leaves;
+          heldAfterAll = t .heldAfterAll;
           outs = t .outs ∙ rw (a .values, append-assoc);
           sum = rw (a .reply) (omega arith);
           works = rw (a .reply) (accepts h (a .runs) (t .works));
@@ -119,7 +119,7 @@ module _ (M : Machine) where
         From m g e calls (final M refusal (accountAt M m g) calls) (results M refusal (accountAt M m g) calls)
     unfolding final results replies total joined lastEnding refuse
     from priced [] m g e r f l =
-        record { n = m; g′ = g; reaches = r; fits = f; leaves = refl; outs = sym (append-nil _); sum = omega arith; works = nothing; largest = l }
+        record { n = m; g′ = g; reaches = r; fits = f; heldAfterAll = refl; outs = sym (append-nil _); sum = omega arith; works = nothing; largest = l }
     from priced (c ∷ cs) m g e r f l = go (refusal (accountAt M m g) c) refl (from priced cs)
       where
         go : (k : ℕ) → refusal (accountAt M m g) c ≡ k →
@@ -135,7 +135,7 @@ module _ (M : Machine) where
 
     -- What is worked out is one thing: the replies, the place and the cycles granted.
     pub works-only : (calls : List Call) (m g : ℕ) (rs rs₂ : List Reply) (n g′ n₂ g₂ : ℕ) →
-        Works M refusal m g calls rs n g′ → Works M refusal m g calls rs₂ n₂ g₂ → (rs ≡ rs₂) × (n ≡ n₂) × (g′ ≡ g₂)
+        Trace M refusal m g calls rs n g′ → Trace M refusal m g calls rs₂ n₂ g₂ → (rs ≡ rs₂) × (n ≡ n₂) × (g′ ≡ g₂)
     works-only [] m g _ _ _ _ _ _ nothing nothing = (refl, refl, refl)
     works-only (c ∷ cs) m g _ _ _ _ _ _ (refuses h w) (refuses h₂ w₂) =
         let (t, u, v) = works-only cs m g _ _ _ _ _ _ w w₂ in
@@ -153,11 +153,11 @@ module _ (M : Machine) where
         let sum : t .g′ ≡ total calls (replies (gave calls)) = omega arith in
         record {
           m = t .n;
-          stands = record { reaches = t .reaches; state = rw (t .leaves); outs = sym (t .outs); count = rw (t .leaves) };
-          only = λ n s. costs-inj M priced n (t .n) (s .reaches) (t .reaches) (sym (s .count) ∙ rw (t .leaves));
+          stands = record { reaches = t .reaches; state = rw (t .heldAfterAll); outs = sym (t .outs); count = rw (t .heldAfterAll) };
+          only = λ n s. costs-inj M priced n (t .n) (s .reaches) (t .reaches) (sym (s .count) ∙ rw (t .heldAfterAll));
           works = rw sum at (t .works);
           replies-only = λ rs n g w. works-only calls 0 0 _ _ _ _ _ _ w (t .works) .0;
-          granted = rw (t .leaves) sum;
+          granted = rw (t .heldAfterAll) sum;
           largest = rw sum at (t .largest);
         }
 

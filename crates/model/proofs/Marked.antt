@@ -26,7 +26,7 @@ use Rattle.model.specs.Calls.{Held, heldAfterStart, Granted, granted, fr
 use Rattle.model.specs.Lines.{valueLines}
 use Rattle.model.specs.Settings.{fieldsFrom, setting, allSettings}
 use Rattle.model.specs.Program.{grantLines, printed}
-use Rattle.model.specs.Demand.{gives, leaves, joinedOutputs}
+use Rattle.model.specs.Demand.{allGranted, heldAfterAll, joinedOutputs}
 
 abbrev p : Parameters
 p = record { k = 8; n = 2; s = 4; b = 2; t = 6 }
@@ -65,7 +65,7 @@ from : String → Held
 from text = heldAfterStart (started (lent (imageOf p (bytes text))) (freshMemory p))
 
 answers : String → List ℕ → List Granted
-answers text gs = gives (lent (imageOf p (bytes text))) (from text) (calls gs)
+answers text gs = allGranted (lent (imageOf p (bytes text))) (from text) (calls gs)
 
 -- Ending, values written and cycles spent of each grant.
 spends : String → List ℕ → List (List ℕ)
@@ -76,7 +76,7 @@ prints text gs = joinedOutputs (answers text gs)
 
 -- After one grant: IRCR, IAR and spent; the registers; SHR and the data cells.
 left : String → Held
-left text = leaves (lent (imageOf p (bytes text))) (from text) (calls (1_000_000_000 ∷ []))
+left text = heldAfterAll (lent (imageOf p (bytes text))) (from text) (calls (1_000_000_000 ∷ []))
 
 ends : String → List ℕ
 ends text = left text .rec .ircr ∷ left text .rec .iar ∷ left text .rec .spent ∷ []
@@ -141,7 +141,7 @@ marks =
     ∷ []
 
 pub marked-runs : map computed marks ≡ map said marks
-unfolding firstCell reply loads calls lent from answers spends prints left ends registers stack computed marks said parameterChecks digitsFrom checked divide remainder negation logic bitsOf signedOf bitwise shiftLeft shiftRight shiftRightSigned rowOf directs costOf linesFrom wordsFrom sameWord lookupFrom names specialOf plain argument allows isWithin argumentsFrom lineCell linesReply linesWords textReply imageOf loadChecks loadReply wordFits wordsFit cellFits allZero cellsFit look lookAt handBack refuse advance loop run accept grant registerValue valueOf store jumpTo push pop blanksOf tokenOf input execute stateStatus stepCost stepValues step granted started startChecks recordFits grantChecks grantRefusal gives leaves joinedOutputs digitsOf endingWord valueLines fieldsFrom setting allSettings grantLines printed
+unfolding firstCell reply loads calls lent from answers spends prints left ends registers stack computed marks said parameterChecks digitsFrom checked divide remainder negation logic bitsOf signedOf bitwise shiftLeft shiftRight shiftRightSigned rowOf directs costOf linesFrom wordsFrom sameWord lookupFrom names specialOf plain argument allows isWithin argumentsFrom lineCell linesReply linesWords textReply imageOf loadChecks loadReply wordFits wordsFit cellFits allZero cellsFit look lookAt handBack refuse advance loop run accept grant registerValue valueOf store jumpTo push pop blanksOf tokenOf input execute stateStatus stepCost stepValues step granted started startChecks recordFits grantChecks grantRefusal allGranted heldAfterAll joinedOutputs digitsOf endingWord valueLines fieldsFrom setting allSettings grantLines printed
 marked-runs = refl
 
 -- Points that the papers leave open, as docs/DECISIONS.md decides them.
@@ -186,5 +186,5 @@ decisions =
     ∷ []
 
 pub decided-points : map computed decisions ≡ map said decisions
-unfolding firstCell reply loads calls lent from answers spends prints left ends registers stack computed decisions said starts headed parameterChecks digitsFrom checked divide remainder negation logic bitsOf signedOf bitwise shiftLeft shiftRight shiftRightSigned rowOf directs costOf linesFrom wordsFrom sameWord lookupFrom names specialOf plain argument allows isWithin argumentsFrom lineCell linesReply linesWords textReply imageOf loadChecks loadReply wordFits wordsFit cellFits allZero cellsFit look lookAt handBack refuse advance loop run accept grant registerValue valueOf store jumpTo push pop blanksOf tokenOf input execute stateStatus stepCost stepValues step granted started startChecks recordFits grantChecks grantRefusal gives leaves joinedOutputs
+unfolding firstCell reply loads calls lent from answers spends prints left ends registers stack computed decisions said starts headed parameterChecks digitsFrom checked divide remainder negation logic bitsOf signedOf bitwise shiftLeft shiftRight shiftRightSigned rowOf directs costOf linesFrom wordsFrom sameWord lookupFrom names specialOf plain argument allows isWithin argumentsFrom lineCell linesReply linesWords textReply imageOf loadChecks loadReply wordFits wordsFit cellFits allZero cellsFit look lookAt handBack refuse advance loop run accept grant registerValue valueOf store jumpTo push pop blanksOf tokenOf input execute stateStatus stepCost stepValues step granted started startChecks recordFits grantChecks grantRefusal allGranted heldAfterAll joinedOutputs
 decided-points = refl

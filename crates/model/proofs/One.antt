@@ -13,7 +13,7 @@ use Rattle.model.specs.declared.Ending.{Ending}
 use Rattle.model.specs.declared.Ending.the-variants.{OutputFull}
 use Rattle.model.specs.declared.Outcome.the-variants.{Stopped}
 use Rattle.model.specs.Machine.{Machine, stops, goes, after, gathered, outputs, costs, lookAt, Reaches, Largest, Priced}
-use Rattle.model.specs.Grants.{Call, Result, Standing, Stop, advance, lookFrom, run, handBack, accept, sees, Runs, accountAt}
+use Rattle.model.specs.Grants.{Call, Result, RunState, Stop, advance, lookFrom, run, handBack, accept, lookAfter, Runs, accountAt}
 use Rattle.model.proofs.Laws.{going, look-stops, reaches-suc, largest}
 use Rattle.model.proofs.Loop.{run-keeps, run-looks}
 
@@ -22,10 +22,10 @@ module _ (M : Machine) where
 
   module _ (granted room m : ℕ) where
     -- A grant that began at the machine's m-th place stands at its n-th, with the run's own state, costs and values.
-    pub record Reached (a : Standing St) : Type 0 where
+    pub record Reached (a : RunState St) : Type 0 where
       pub n : ℕ
       pub forward : m ≤ n
-      pub on : (i : ℕ) → m ≤ i → i < n → sees M granted room m i ≡ goes
+      pub on : (i : ℕ) → m ≤ i → i < n → lookAfter M granted room m i ≡ goes
       pub reaches : Reaches M n
       pub fits : costs M n ≤ granted
       pub state : a .state ≡ after M n
@@ -33,13 +33,13 @@ module _ (M : Machine) where
       pub written : outputs M n ≡ outputs M m ++ a .written
 
     -- What it sees there is what is worked out.
-    sees-at : (a : Standing St) (r : Reached a) → sees M granted room m (r .n) ≡ lookFrom M granted room a
-    unfolding sees
-    sees-at a r =
+    look-after-at : (a : RunState St) (r : Reached a) → lookAfter M granted room m (r .n) ≡ lookFrom M granted room a
+    unfolding lookAfter
+    look-after-at a r =
         let e : length (outputs M (r .n)) - length (outputs M m) ≡ length (a .written) = omega (arith, simp length-append at (ap length (r .written))) in
         rw (e, r .state, r .spent)
 
-    advance-reaches : (a : Standing St) → Reached a → lookFrom M granted room a ≡ goes → Reached (advance M a)
+    advance-reaches : (a : RunState St) → Reached a → lookFrom M granted room a ≡ goes → Reached (advance M a)
     unfolding after gathered advance
     advance-reaches a r h =
         let g = going M (a .state) _ _ h in
@@ -54,8 +54,8 @@ module _ (M : Machine) where
           written = rw (r .written, r .state, append-assoc);
         }
       where
-        split : (i : ℕ) → m ≤ i → (i ≡ r .n) ⊎ (i < r .n) → sees M granted room m i ≡ goes
-        split i k (inl e) = rw e (sees-at a r ∙ h)
+        split : (i : ℕ) → m ≤ i → (i ≡ r .n) ⊎ (i < r .n) → lookAfter M granted room m i ≡ goes
+        split i k (inl e) = rw e (look-after-at a r ∙ h)
         split i k (inr l) = r .on i k l
 
   -- A grant past its checks, from the machine's m-th place: it ends at place n, with the reply that is worked out and the values of the steps between.
@@ -70,8 +70,8 @@ module _ (M : Machine) where
     pub fits : costs M n ≤ g + c .cycles
     pub most : ¬ (e ≡ OutputFull) → Largest M n (g + c .cycles)
 
-  stopped-most : (g room m n : ℕ) (e : Ending) → Reaches M n → costs M n ≤ g → sees M g room m n ≡ stops e → ¬ (e ≡ OutputFull) → Largest M n g
-  unfolding sees lookAt
+  stopped-most : (g room m n : ℕ) (e : Ending) → Reaches M n → costs M n ≤ g → lookAfter M g room m n ≡ stops e → ¬ (e ≡ OutputFull) → Largest M n g
+  unfolding lookAfter lookAt
   stopped-most g room m n e r f h k =
       largest M n g r f λ run. ltb-true _ _ (look-stops (status (after M n)) _ _ e h k run)
 
@@ -79,7 +79,7 @@ module _ (M : Machine) where
       lookFrom M (g + c .cycles) (length (c .slice)) (t .at) ≡ stops (t .ending) → Accepted m g c (handBack (accountAt M m g) c t)
   unfolding handBack
   hands-back m g c t r h =
-      let off = sees-at (g + c .cycles) (length (c .slice)) m (t .at) r ∙ h in
+      let off = look-after-at (g + c .cycles) (length (c .slice)) m (t .at) r ∙ h in
       let count : length (outputs M (r .n)) - length (outputs M m) ≡ length (t .at .written) =
       omega (arith, simp length-append at (ap length (r .written))) in
       record {
@@ -99,7 +99,7 @@ module _ (M : Machine) where
   accept-runs priced m g c r f =
       let granted = g + c .cycles in
       let room = length (c .slice) in
-      let begin : Standing St = record { state = after M m; spent = costs M m; written = [] } in
+      let begin : RunState St = record { state = after M m; spent = costs M m; written = [] } in
       let begun : Reached granted room m begin =
       record {
         n = m;

@@ -7,19 +7,19 @@ use lib.IntN.{ℤ}
 use lib.ListN.{take}
 use Rattle.model.specs.declared.Ending.the-variants.{OutputFull}
 use Rattle.model.specs.Machine.{after, outputs, costs, Reaches, Largest}
-use Rattle.model.specs.Grants.{Call, Reply, lastEnding, total, Works}
+use Rattle.model.specs.Grants.{Call, Reply, lastEnding, total, Trace}
 use Rattle.model.specs.Step.{Environment, Tak}
 use Rattle.model.specs.Calls.{Held, heldAfter, Granted, granted, memoryOf, grantRefusal}
 
 -- What each grant of a list gives, by the definition. "Image and input are the same throughout."
-unfoldable pub gives : Environment → Held → List Call → List Granted
-gives e h [] = []
-gives e h (c ∷ cs) = let x = granted e h c in x ∷ gives e (heldAfter x) cs
+unfoldable pub allGranted : Environment → Held → List Call → List Granted
+allGranted e h [] = []
+allGranted e h (c ∷ cs) = let x = granted e h c in x ∷ allGranted e (heldAfter x) cs
 
 -- What the list leaves.
-unfoldable pub leaves : Environment → Held → List Call → Held
-leaves e h [] = h
-leaves e h (c ∷ cs) = leaves e (heldAfter (granted e h c)) cs
+unfoldable pub heldAfterAll : Environment → Held → List Call → Held
+heldAfterAll e h [] = h
+heldAfterAll e h (c ∷ cs) = heldAfterAll e (heldAfter (granted e h c)) cs
 
 -- "the refusal or ending, the number of values and the cycles"
 abbrev pub replyOf : Granted → Reply
@@ -55,8 +55,8 @@ module _ (e : Environment) where
       pub is-after : IsAfter m last (joinedOutputs given)
       pub only : (n : ℕ) → IsAfter n last (joinedOutputs given) → n ≡ m
       -- "Each grant gives exactly the refusal or ending, the number of values and the cycles that document 01 works out for it in that list."
-      pub replies : Works (Tak e) (grantRefusal e) 0 0 calls replied m (total calls replied)
-      pub replies-only : (rs : List Reply) (n g : ℕ) → Works (Tak e) (grantRefusal e) 0 0 calls rs n g → rs ≡ replied
+      pub replies : Trace (Tak e) (grantRefusal e) 0 0 calls replied m (total calls replied)
+      pub replies-only : (rs : List Reply) (n g : ℕ) → Trace (Tak e) (grantRefusal e) 0 0 calls rs n g → rs ≡ replied
       -- "If the list has no accepted grant, or the last accepted one did not stop for a full output, m is the largest number of instructions
       -- in that machine's run whose costs sum to at most the accepted grants together."
       pub largest : ¬ (lastEnding none replied ≡ some OutputFull) → Largest (Tak e) m (total calls replied)

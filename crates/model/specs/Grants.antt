@@ -35,7 +35,7 @@ pub record Result (St : Type 0) : Type 0 where
   pub slice : List ℤ
 
 -- Where a grant stands: the state, the cycles spent since start, and the values that this grant has written.
-pub record Standing (St : Type 0) : Type 0 where
+pub record RunState (St : Type 0) : Type 0 where
   pub state : St
   pub spent : ℕ
   pub written : List ℤ
@@ -43,7 +43,7 @@ pub record Standing (St : Type 0) : Type 0 where
 -- Where it stopped, and how.
 pub record Stop (St : Type 0) : Type 0 where
   pub ending : Ending
-  pub at : Standing St
+  pub at : RunState St
 
 -- The ending of the last accepted grant, if there is one; `e` stands for the grants before the list.
 unfoldable pub lastEnding : Option Ending → List Reply → Option Ending
@@ -75,15 +75,15 @@ module _ (M : Machine) where
   open Machine M using (St, fresh, cost, values, step)
 
   -- "Otherwise the step runs and spent rises by the cost."
-  unfoldable pub advance : Standing St → Standing St
+  unfoldable pub advance : RunState St → RunState St
   advance a = record { state = step (a .state); spent = a .spent + cost (a .state); written = a .written ++ values (a .state) }
 
   -- What a grant finds where it stands.
-  abbrev pub lookFrom : (granted room : ℕ) → Standing St → Look
+  abbrev pub lookFrom : (granted room : ℕ) → RunState St → Look
   lookFrom granted room a = lookAt M (a .state) (granted - a .spent) (room - length (a .written))
 
   -- Look; stop, or step and look again. The fuel is never used up (proofs/Loop.antt).
-  unfoldable pub loop : (granted room fuel : ℕ) → Standing St → Stop St
+  unfoldable pub loop : (granted room fuel : ℕ) → RunState St → Stop St
   loop granted room zero a = record { ending = Paused; at = a }
   loop granted room (suc n) a =
       elim (lookFrom granted room a) [
@@ -92,7 +92,7 @@ module _ (M : Machine) where
       ]
 
   -- "then looks and steps as above from there until one of the endings holds"
-  unfoldable pub run : (granted room : ℕ) → Standing St → Stop St
+  unfoldable pub run : (granted room : ℕ) → RunState St → Stop St
   run granted room a = loop granted room (suc (granted - a .spent)) a
 
   -- "A grant adds its cycles to granted."
@@ -101,8 +101,8 @@ module _ (M : Machine) where
 
   -- WHAT IS WORKED OUT, over the machine's run alone. After the first i instructions, of which the first m came before this grant:
   -- granted less their costs, and the room less the values that its own steps wrote.
-  unfoldable pub sees : (granted room m i : ℕ) → Look
-  sees granted room m i = lookAt M (after M i) (granted - costs M i) (room - (length (outputs M i) - length (outputs M m)))
+  unfoldable pub lookAfter : (granted room m i : ℕ) → Look
+  lookAfter granted room m i = lookAt M (after M i) (granted - costs M i) (room - (length (outputs M i) - length (outputs M m)))
 
   -- "Grant's checks are taken at the state of demand 3's machine after the steps before it, with granted .. and spent as .."
   abbrev pub accountAt : (m granted : ℕ) → Account St
@@ -111,8 +111,8 @@ module _ (M : Machine) where
   -- An accepted grant "looks and steps as above from there until one of the endings holds": from m to n.
   pub record Runs (granted room m n : ℕ) (e : Ending) : Type 0 where
     pub forward : m ≤ n
-    pub on : (i : ℕ) → m ≤ i → i < n → sees granted room m i ≡ goes
-    pub off : sees granted room m n ≡ stops e
+    pub on : (i : ℕ) → m ≤ i → i < n → lookAfter granted room m i ≡ goes
+    pub off : lookAfter granted room m n ≡ stops e
 
   -- Grant's checks: 0 accepts, another number refuses.
   module _ (refusal : Account St → Call → ℕ) where
@@ -122,15 +122,15 @@ module _ (M : Machine) where
 
     -- The replies to a list of calls, from m instructions and `g` cycles granted before it to n and g′ after it.
     -- "A refused one takes no step and adds no cycles"; "its values and cycles spent are those of its own steps".
-    pub data Works : (m g : ℕ) → List Call → List Reply → (n g′ : ℕ) → Type 0 where
-      nothing : {m g : ℕ} → Works m g [] [] m g
+    pub data Trace : (m g : ℕ) → List Call → List Reply → (n g′ : ℕ) → Type 0 where
+      nothing : {m g : ℕ} → Trace m g [] [] m g
       refuses : {m g n g′ k : ℕ} {c : Call} {cs : List Call} {rs : List Reply} →
           refusal (accountAt m g) c ≡ suc k →
-          Works m g cs rs n g′ →
-          Works m g (c ∷ cs) (record { outcome = Refused (suc k); count = 0; cycles = 0 } ∷ rs) n g′
+          Trace m g cs rs n g′ →
+          Trace m g (c ∷ cs) (record { outcome = Refused (suc k); count = 0; cycles = 0 } ∷ rs) n g′
       accepts : {m g l n g′ : ℕ} {e : Ending} {c : Call} {cs : List Call} {rs : List Reply} →
           refusal (accountAt m g) c ≡ 0 →
           Runs (g + c .cycles) (length (c .slice)) m l e →
-          Works l (g + c .cycles) cs rs n g′ →
-          Works m g (c ∷ cs)
+          Trace l (g + c .cycles) cs rs n g′ →
+          Trace m g (c ∷ cs)
           (record { outcome = Stopped e; count = length (outputs M l) - length (outputs M m); cycles = costs M l - costs M m } ∷ rs) n g′

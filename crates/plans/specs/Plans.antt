@@ -15,18 +15,38 @@ use Rattle.operands.specs.Cores.{stateOf}
 use Rattle.operands.specs.declared.Core.{Core}
 use Rattle.plans.specs.declared.Plan.{Plan}
 
+-- WHERE A PLAN'S VALUE GOES, beside the words of registers and data cells: nowhere, or the number of CLEAR_REG, CLEAR_DATA_MEM, DUMP_REG,
+-- DUMP_DATA_MEM or OUT. Every word of a register or data cell is greater.
+abbrev pub nowhere : ℕ
+nowhere = 0
+
+abbrev pub allRegisters : ℕ
+allRegisters = 1
+
+abbrev pub allCells : ℕ
+allCells = 2
+
+abbrev pub registersOut : ℕ
+registersOut = 3
+
+abbrev pub cellsOut : ℕ
+cellsOut = 4
+
+abbrev pub valueOut : ℕ
+valueOut = 6
+
 -- WHAT A PLAN DOES
 -- The registers after it: cleared by CLEAR_REG, or with the value written.
 abbrev pub registersAfter : (to : ℕ) → ℤ → List ℤ → List ℤ
-registersAfter to v rs = cond (eqb to 1) (replicate (length rs) (pos 0)) (cond (eqb (kindOf to) registerKind) (set rs (contentOf to) v) rs)
+registersAfter to v rs = cond (eqb to allRegisters) (replicate (length rs) (pos 0)) (cond (eqb (kindOf to) registerKind) (set rs (contentOf to) v) rs)
 
 -- The data cells after it: cleared by CLEAR_DATA_MEM, or with the value written.
 abbrev pub cellsAfter : (to : ℕ) → ℤ → List ℤ → List ℤ
-cellsAfter to v cs = cond (eqb to 2) (replicate (length cs) (pos 0)) (cond (eqb (kindOf to) directKind) (set cs (contentOf to) v) cs)
+cellsAfter to v cs = cond (eqb to allCells) (replicate (length cs) (pos 0)) (cond (eqb (kindOf to) directKind) (set cs (contentOf to) v) cs)
 
 -- The values that it writes to the output: those of DUMP_REG, DUMP_DATA_MEM and OUT.
 abbrev pub valuesOf : (to : ℕ) → ℤ → (registers cells : List ℤ) → List ℤ
-valuesOf to v rs cs = cond (eqb to 3) rs (cond (eqb to 4) cs (cond (eqb to 6) (v ∷ []) []))
+valuesOf to v rs cs = cond (eqb to registersOut) rs (cond (eqb to cellsOut) cs (cond (eqb to valueOut) (v ∷ []) []))
 
 -- The state after it, from where the machine stands: "With another code it sets IRCR and changes nothing else".
 unfoldable pub planned : Core → Plan → (registers cells : List ℤ) → State
@@ -42,11 +62,11 @@ writtenPlan to v c = record { value = v; to = to; next = record { iar = c .iar +
 
 -- or nothing does.
 abbrev pub keptPlan : Core → Plan
-keptPlan c = writtenPlan 0 (pos 0) c
+keptPlan c = writtenPlan nowhere (pos 0) c
 
 -- A code is set.
 unfoldable pub failedPlan : ℕ → Core → Plan
-failedPlan k c = record { value = pos 0; to = 0; next = record { iar = c .iar; ircr = k; top = c .top; place = c .place } }
+failedPlan k c = record { value = pos 0; to = nowhere; next = record { iar = c .iar; ircr = k; top = c .top; place = c .place } }
 
 -- A value or a return code, as the code computes it,
 abbrev pub settledPlan : (to : ℕ) → Computed → Core → Plan
@@ -61,7 +81,7 @@ answeredPlan to moved c (code k) = failedPlan k c
 unfoldable pub jumpPlan : (t : ℕ) → ℤ → Core → Plan
 jumpPlan t z c =
     cond (nonNeg z && ltb (natAbs z) t)
-    (record { value = pos 0; to = 0; next = record { iar = natAbs z; ircr = 0; top = c .top; place = c .place } })
+    (record { value = pos 0; to = nowhere; next = record { iar = natAbs z; ircr = 0; top = c .top; place = c .place } })
     (failedPlan 1 c)
 
 -- "An untaken jump never fails."

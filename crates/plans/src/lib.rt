@@ -3,7 +3,7 @@ ghost use mathlib.Core.Path.{_≡_};
 ghost use Prim.Native.Nat.{_+_, _≤_};
 ghost use lib.IntN.{pos};
 ghost use lib.ListN.{length};
-ghost use Rattle.cells.specs.Cells.{IsLimit};
+ghost use Rattle.bounds.specs.Bounds.{IsLimit};
 ghost use Rattle.plans.specs.Plans.{keptPlan, failedPlan, writtenPlan, settledPlan, jumpPlan, takenPlan, booleanPlan, pushPlan, popPlan, inputPlan};
 ghost use Rattle.model.specs.Parameters.{maxCells, maxInstructions};
 use arithmetic::Computed;
@@ -19,15 +19,30 @@ use text::tokens::next_token;
 const SHR_WORD: u32 = FIRST_REGISTER + SHR;
 
 // A value, where it goes, and where the machine stands after the step. A failing step has its code in `next.ircr`, and nothing else counts.
-// `to` is the word of a register or data cell; or 0, nothing; or the number of CLEAR_REG, CLEAR_DATA_MEM, DUMP_REG, DUMP_DATA_MEM or OUT.
+// `to` is the word of a register or data cell, or one of the targets below, which are smaller than every word.
 pub struct Plan {
     pub value: i32,
     pub to: u32,
     pub next: Core,
 }
 
+// Targets beside registers and data cells: none, and the numbers of the instructions that go to all registers, all data cells or the output.
+impl Plan {
+    pub const NOWHERE: u32 = 0;
+
+    pub const CLEAR_REGISTERS: u32 = 1;
+
+    pub const CLEAR_CELLS: u32 = 2;
+
+    pub const DUMP_REGISTERS: u32 = 3;
+
+    pub const DUMP_CELLS: u32 = 4;
+
+    pub const OUTPUT: u32 = 6;
+}
+
 // A value goes somewhere, and IAR is raised.
-pub fn put(to: u32, value: i32, at: Core) -> Plan
+pub fn store(to: u32, value: i32, at: Core) -> Plan
     requires { ⌜ at .iar ≤ maxInstructions ⌝ }
     ensures { λ r. ⌜ r ≡ writtenPlan to value at ⌝ }
 {
@@ -48,7 +63,7 @@ pub fn keep(at: Core) -> Plan
     requires { ⌜ at .iar ≤ maxInstructions ⌝ }
     ensures { λ r. ⌜ r ≡ keptPlan at ⌝ }
 {
-    put(0, 0, at)
+    store(Plan::NOWHERE, 0, at)
 }
 
 // IRCR is set, and no more.
@@ -57,7 +72,7 @@ pub fn fail(code: u32, at: Core) -> Plan
 {
     Plan {
         value: 0,
-        to: 0,
+        to: Plan::NOWHERE,
         next: Core {
             iar: at.iar,
             ircr: code,
@@ -68,11 +83,11 @@ pub fn fail(code: u32, at: Core) -> Plan
 }
 
 // The value of a computation goes somewhere, or its code is set. Without a choice here IAR does not wait for the value.
-pub fn settle(to: u32, answer: Computed, at: Core) -> Plan
+pub fn store_answer(to: u32, answer: Computed, at: Core) -> Plan
     requires { ⌜ at .iar ≤ maxInstructions ⌝ }
     ensures { λ r. ⌜ r ≡ settledPlan to answer at ⌝ }
 {
-    let mut plan = put(to, answer.value, at);
+    let mut plan = store(to, answer.value, at);
     plan.next.ircr = answer.code;
     plan
 }
@@ -90,7 +105,7 @@ pub fn jump(t: u32, target: i32, at: Core) -> Plan
     }
     Plan {
         value: 0,
-        to: 0,
+        to: Plan::NOWHERE,
         next: Core {
             iar: iar as usize,
             ircr: 0,
@@ -147,9 +162,9 @@ pub fn push(w: u32, value: i32, s: u32, at: Core) -> Plan
     };
     let to = FIRST_DIRECT + (top as u32);
     if w == SHR_WORD {
-        return put(to, top as i32, raised);
+        return store(to, top as i32, raised);
     }
-    put(to, value, raised)
+    store(to, value, raised)
 }
 
 // POP to the word w.
@@ -168,7 +183,7 @@ pub fn pop(w: u32, b: u32, at: Core, cells: &[i32]) -> Plan
         top: head,
         place: at.place,
     };
-    put(w, cells[head], lowered)
+    store(w, cells[head], lowered)
 }
 
 // IN to the word w.
@@ -187,7 +202,7 @@ pub fn input(w: u32, m: u32, at: Core, bytes: &[u8]) -> Plan
     match reading {
         Reading::NotANumber => fail(1, at),
         Reading::Outside => fail(2, at),
-        Reading::Number(value) => put(
+        Reading::Number(value) => store(
             w,
             value,
             Core {

@@ -9,7 +9,7 @@ use borrow.Author.Tests.{ltb-true}
 use mir.Syntax.{Width}
 use mir.Val.{SFits, hbits, toZ}
 use mir.Facts.{toZ-pos}
-use Rattle.cells.proofs.Integers.{sub-ge}
+use Rattle.bounds.proofs.Integers.{sub-ge}
 use Rattle.bitwise.proofs.BitLaws.{mag-minus-one}
 
 pub complement-negative : (z : ℤ) → ltZ z (pos 0) ≡ true → negsuc 0 -ℤ z ≡ pos (mag z)

@@ -1,14 +1,14 @@
 // Vectors: for a K and two values, a line with what every operation makes of them.
 ghost use Prim.Native.Nat.{_≤_};
 ghost use lib.ListN.{length};
-ghost use Rattle.cells.specs.Cells.{IsLimit, Within};
+ghost use Rattle.bounds.specs.Bounds.{IsLimit, Within};
 use crate::printer::put;
 use crate::printer::put_end;
 use crate::printer::put_value;
 use crate::reader::read_next;
 use arithmetic::Computed;
-use cells::limits::limit_of;
-use cells::ranges::in_range;
+use bounds::limits::limit_of;
+use bounds::ranges::in_range;
 use numbers::reading::Reading;
 use numbers::reading::read_number;
 use text::tokens::next_token;

@@ -16,7 +16,7 @@ use Rattle.model.proofs.Lists as lists
 use Rattle.model.proofs.Loop.{run-keeps}
 use Rattle.model.proofs.Refusals.{grant-refused}
 use Rattle.model.specs.Calls.{Held, environmentFor, accountOf, Granted, granted, grantRefusal}
-use Rattle.model.specs.Grants.{Call, Account, Standing, Stop, advance, run, accept, handBack}
+use Rattle.model.specs.Grants.{Call, Account, RunState, Stop, advance, run, accept, handBack}
 use Rattle.model.specs.Instructions.{Operation, clearRegisters, clearCells, dumpRegisters, dumpCells, inputs, outputs, pushes, pops, skips, idles, writes, jumps, jumpsOn}
 use Rattle.model.specs.Machine.{Status, running, Look, stops, goes, look, lookAt}
 use Rattle.model.specs.Parameters.{Fit}
@@ -59,7 +59,7 @@ module _ (e : Environment) (a : Account State) (c : Call) (h : grantRefusal e a 
   abbrev given : ℕ
   given = a .granted + c .cycles
 
-  abbrev begin : Standing State
+  abbrev begin : RunState State
   begin = record { state = a .state; spent = a .spent; written = [] }
 
   abbrev stop : Stop State

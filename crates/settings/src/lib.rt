@@ -122,7 +122,7 @@ pub fn scan_chunk(scan: Scan, chunk: &[u8]) -> Scan
 }
 
 // The parameters, at the end of the file.
-pub fn settle(scan: Scan) -> Parameters
+pub fn settings_of(scan: Scan) -> Parameters
     ensures { λ r. ⌜ r ≡ settled scan ⌝ }
     ensures meaning { λ r. ⌜ ((file : List ℕ) → scan ≡ scanOf file → r ≡ settings file) ⌝ }
 {

@@ -11,21 +11,21 @@ use Rattle.model.specs.Step.{valueOf, argumentAt}
 use Rattle.model.specs.Words.{Cell}
 use Rattle.model.specs.declared.Parameters.{Parameters}
 use Rattle.arithmetic.specs.Answers.{computed}
-use Rattle.cells.specs.Cells.{IsLimit, Within}
+use Rattle.bounds.specs.Bounds.{IsLimit, Within}
 use Rattle.operands.specs.Cores.{stateOf, Bounded}
 use Rattle.operands.specs.declared.Core.{Core}
-use Rattle.plans.specs.Plans.{writtenPlan, keptPlan, settledPlan, jumpPlan, takenPlan, booleanPlan, pushPlan, popPlan, inputPlan}
+use Rattle.plans.specs.Plans.{allRegisters, allCells, registersOut, cellsOut, valueOut, writtenPlan, keptPlan, settledPlan, jumpPlan, takenPlan, booleanPlan, pushPlan, popPlan, inputPlan}
 use Rattle.plans.specs.declared.Plan.{Plan}
 
 module _ (p : Parameters) (input : List ℕ) (at : Core) (registers cells : List ℤ) where
   -- As `execute` of model has them: x and y are the values of the first two arguments.
   abbrev pub planOf : Operation → Cell → (x y : ℤ) → Plan
-  planOf clearRegisters c x y = writtenPlan 1 (pos 0) at
-  planOf clearCells c x y = writtenPlan 2 (pos 0) at
-  planOf dumpRegisters c x y = writtenPlan 3 (pos 0) at
-  planOf dumpCells c x y = writtenPlan 4 (pos 0) at
+  planOf clearRegisters c x y = writtenPlan allRegisters (pos 0) at
+  planOf clearCells c x y = writtenPlan allCells (pos 0) at
+  planOf dumpRegisters c x y = writtenPlan registersOut (pos 0) at
+  planOf dumpCells c x y = writtenPlan cellsOut (pos 0) at
   planOf inputs c x y = inputPlan (c .first) (limit (p .k)) at input
-  planOf outputs c x y = writtenPlan 6 x at
+  planOf outputs c x y = writtenPlan valueOut x at
   planOf pushes c x y = pushPlan (c .first) x (p .s) at
   planOf pops c x y = popPlan (c .first) (p .b) at cells
   planOf skips c x y = jumpPlan (p .t) (pos (at .iar + 2)) at

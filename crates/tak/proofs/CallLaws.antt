@@ -29,49 +29,49 @@ module _ (p : Parameters) (text image : List ℕ) where
 
 -- START
 module _ (e : Environment) (s : Slices) where
-  pub start-size : ¬ (length (s .numbers) ≡ recordLength) → takStart e s ≡ record { number = 100; slices = s }
+  pub start-size : ¬ (length (s .fields) ≡ recordLength) → takStart e s ≡ record { number = 100; slices = s }
   unfolding takStart
-  start-size h = rw (ne-eqb (length (s .numbers)) recordLength h)
+  start-size h = rw (ne-eqb (length (s .fields)) recordLength h)
 
-  pub start-replied : {x : Started} {numbers′ : List ℤ} → length (s .numbers) ≡ recordLength → StartIs e (s .memory) x →
-      numbers′ ≡ recordAfter (x .reply .refusal) (x .reply .rec) (s .numbers) →
-      takStart e s ≡ record { number = x .reply .refusal; slices = record { numbers = numbers′; memory = x .memory } }
+  pub start-replied : {x : Started} {fields′ : List ℤ} → length (s .fields) ≡ recordLength → StartIs e (s .memory) x →
+      fields′ ≡ recordAfter (x .reply .refusal) (x .reply .rec) (s .fields) →
+      takStart e s ≡ record { number = x .reply .refusal; slices = record { fields = fields′; memory = x .memory } }
   unfolding takStart
   start-replied {x} h i q =
-      rw (eq-eqb (length (s .numbers)) recordLength h) (ap (λ (y : Started). startReplied y (s .numbers)) (sym (i .given))
-      ∙ (λ j. record { number = x .reply .refusal; slices = record { numbers = sym q j; memory = x .memory } }))
+      rw (eq-eqb (length (s .fields)) recordLength h) (ap (λ (y : Started). startReplied y (s .fields)) (sym (i .given))
+      ∙ (λ j. record { number = x .reply .refusal; slices = record { fields = sym q j; memory = x .memory } }))
 
 -- GRANT
 module _ (e : Environment) (s : Slices) (c : Call) where
-  pub grant-size : ¬ (length (s .numbers) ≡ recordLength) →
+  pub grant-size : ¬ (length (s .fields) ≡ recordLength) →
       takGrant e s c ≡ record { number = 100; ending = 0; values = 0; spent = 0; slices = s; output = c .slice }
   unfolding takGrant
-  grant-size h = rw (ne-eqb (length (s .numbers)) recordLength h)
+  grant-size h = rw (ne-eqb (length (s .fields)) recordLength h)
 
-  pub grant-replied : {rec : Record} {x : Granted} {number ending : ℕ} {numbers′ : List ℤ} → length (s .numbers) ≡ recordLength →
-      rec ≡ recordFrom (s .numbers) → GrantIs (withParameters (rec .parameters) e) (record { rec = rec; memory = s .memory }) c x →
+  pub grant-replied : {rec : Record} {x : Granted} {number ending : ℕ} {fields′ : List ℤ} → length (s .fields) ≡ recordLength →
+      rec ≡ recordFrom (s .fields) → GrantIs (withParameters (rec .parameters) e) (record { rec = rec; memory = s .memory }) c x →
       number ≡ outcomeNumber (x .reply .outcome) → ending ≡ outcomeEnding (x .reply .outcome) →
-      numbers′ ≡ recordAfter number (x .reply .rec) (s .numbers) →
+      fields′ ≡ recordAfter number (x .reply .rec) (s .fields) →
       takGrant e s c
       ≡ record {
         number = number;
         ending = ending;
         values = x .reply .values;
         spent = x .reply .cycles;
-        slices = record { numbers = numbers′; memory = x .memory };
+        slices = record { fields = fields′; memory = x .memory };
         output = x .slice;
       }
   unfolding takGrant granted
   grant-replied {rec} {x} {number} {ending} h r g n m k =
       let y = ap (λ (t : Record). granted e (record { rec = t; memory = s .memory }) c) (sym r) ∙ sym (g .given) in
-      let w = ap (λ (t : ℕ). recordAfter t (x .reply .rec) (s .numbers)) (sym n) ∙ sym k in
-      rw (eq-eqb (length (s .numbers)) recordLength h) (ap (λ (t : Granted). grantReplied t (s .numbers)) y
+      let w = ap (λ (t : ℕ). recordAfter t (x .reply .rec) (s .fields)) (sym n) ∙ sym k in
+      rw (eq-eqb (length (s .fields)) recordLength h) (ap (λ (t : Granted). grantReplied t (s .fields)) y
       ∙ (λ i.
       record {
         number = sym n i;
         ending = sym m i;
         values = x .reply .values;
         spent = x .reply .cycles;
-        slices = record { numbers = w i; memory = x .memory };
+        slices = record { fields = w i; memory = x .memory };
         output = x .slice;
       }))

@@ -13,7 +13,7 @@ use Rattle.model.proofs.Fits.{start-accepted}
 use Rattle.model.proofs.GrantKeeps.{started-accepted}
 use Rattle.model.proofs.Refusals.{start-number, grant-refused, grant-number}
 use Rattle.model.specs.Calls.{Held, environmentFor, startChecks, Started, started, heldAfterStart, accountOf, Granted, granted, heldAfter, grantRefusal, outcomeNumber}
-use Rattle.model.specs.Demand.{gives, leaves}
+use Rattle.model.specs.Demand.{allGranted, heldAfterAll}
 use Rattle.model.specs.Grants.{Call}
 use Rattle.model.specs.Parameters.{refusalOf}
 use Rattle.model.specs.Step.{Environment, environmentOf}
@@ -21,12 +21,12 @@ use Rattle.model.specs.declared.Record.{Record}
 use Rattle.machine.proofs.Demand.{input-unread}
 use Rattle.tak.specs.Calls.{Slices, StartCall, startReplied, takStart, GrantCall, grantReplied, takGrant}
 use Rattle.tak.specs.Lists.{Chain, nothing, called, allReplied, CallsDemand3}
-use Rattle.tak.specs.Records.{recordAfter, numbersOf, recordLength}
+use Rattle.tak.specs.Records.{recordAfter, fieldsOf, recordLength}
 use Rattle.tak.proofs.Exact.{Fitting, read-back, fresh-fitting, granted-fitting}
 
 -- The slices of a record and memory.
 abbrev slicesOf : Held → Slices
-slicesOf h = record { numbers = numbersOf (h .rec); memory = h .memory }
+slicesOf h = record { fields = fieldsOf (h .rec); memory = h .memory }
 
 -- ONE GRANT
 module _ (e : Environment) (h : Held) (w : Fitting (h .rec)) (c : Call) where
@@ -36,7 +36,7 @@ module _ (e : Environment) (h : Held) (w : Fitting (h .rec)) (c : Call) where
   -- The record slice is the new record's, and the next call reads that record.
   record Next : Type 0 where
     fitting : Fitting (given .reply .rec)
-    numbers : recordAfter (outcomeNumber (given .reply .outcome)) (given .reply .rec) (numbersOf (h .rec)) ≡ numbersOf (given .reply .rec)
+    fields : recordAfter (outcomeNumber (given .reply .outcome)) (given .reply .rec) (fieldsOf (h .rec)) ≡ fieldsOf (given .reply .rec)
 
   abbrev refusal : ℕ
   refusal = grantRefusal (environmentFor e h) (accountOf h) c
@@ -48,35 +48,35 @@ module _ (e : Environment) (h : Held) (w : Fitting (h .rec)) (c : Call) where
       go : (k : ℕ) → refusal ≡ k → Next
       go zero r =
           let n : outcomeNumber (given .reply .outcome) ≡ 0 = grant-number e h c ∙ r in
-          record { fitting = granted-fitting e h c r; numbers = rw (eq-eqb _ 0 n) }
-      go (suc k) r = let x = grant-refused e h c k r in record { fitting = rw x w; numbers = rw (x, ne-eqb (suc k) 0 (λ q. omega arith)) }
+          record { fitting = granted-fitting e h c r; fields = rw (eq-eqb _ 0 n) }
+      go (suc k) r = let x = grant-refused e h c k r in record { fitting = rw x w; fields = rw (x, ne-eqb (suc k) 0 (λ q. omega arith)) }
 
-  answered : takGrant e (slicesOf h) c ≡ grantReplied given (numbersOf (h .rec))
+  answered : takGrant e (slicesOf h) c ≡ grantReplied given (fieldsOf (h .rec))
   unfolding takGrant
-  answered = ap (λ (r : Record). grantReplied (granted e (record { rec = r; memory = h .memory }) c) (numbersOf (h .rec))) (read-back (h .rec) w)
+  answered = ap (λ (r : Record). grantReplied (granted e (record { rec = r; memory = h .memory }) c) (fieldsOf (h .rec))) (read-back (h .rec) w)
 
   -- The slices after the call.
-  after : grantReplied given (numbersOf (h .rec)) .slices ≡ slicesOf (heldAfter given)
-  after i = record { numbers = next .numbers i; memory = given .memory }
+  after : grantReplied given (fieldsOf (h .rec)) .slices ≡ slicesOf (heldAfter given)
+  after i = record { fields = next .fields i; memory = given .memory }
 
 -- A LIST OF GRANTS
 record Answered (e : Environment) (h : Held) (calls : List Call) (answers : List GrantCall) (last : Slices) : Type 0 where
-  answers-are : answers ≡ allReplied (numbersOf (h .rec)) (gives e h calls)
-  last-is : last ≡ slicesOf (leaves e h calls)
+  answers-are : answers ≡ allReplied (fieldsOf (h .rec)) (allGranted e h calls)
+  last-is : last ≡ slicesOf (heldAfterAll e h calls)
 
 module _ (e : Environment) where
   chain-answered : (h : Held) → Fitting (h .rec) → {s last : Slices} {calls : List Call} {answers : List GrantCall} → s ≡ slicesOf h →
       Chain e s calls answers last → Answered e h calls answers last
-  unfolding gives leaves allReplied
+  unfolding allGranted heldAfterAll allReplied
   chain-answered h w i nothing = record { answers-are = refl; last-is = i }
   chain-answered h w i (called {s} {c} {x} {cs} q ch) =
       let g = granted e h c in
       let n = next e h w c in
-      let y : x ≡ grantReplied g (numbersOf (h .rec)) = sym q ∙ ap (λ (t : Slices). takGrant e t c) i ∙ answered e h w c in
+      let y : x ≡ grantReplied g (fieldsOf (h .rec)) = sym q ∙ ap (λ (t : Slices). takGrant e t c) i ∙ answered e h w c in
       let t = chain-answered (heldAfter g) (n .fitting) (ap (λ (z : GrantCall). z .slices) y ∙ after e h w c) ch in
       record {
         answers-are = (λ j. y j ∷ t .answers-are j)
-            ∙ ap (λ (l : List ℤ). grantReplied g (numbersOf (h .rec)) ∷ allReplied l (gives e (heldAfter g) cs)) (sym (n .numbers));
+            ∙ ap (λ (l : List ℤ). grantReplied g (fieldsOf (h .rec)) ∷ allReplied l (allGranted e (heldAfter g) cs)) (sym (n .fields));
         last-is = t .last-is;
       }
 
@@ -91,13 +91,13 @@ module _ (e : Environment) (s : Slices) (x : StartCall)
   abbrev begun : Started
   begun = started e (s .memory)
 
-  replied : x ≡ startReplied begun (s .numbers)
+  replied : x ≡ startReplied begun (s .fields)
   unfolding takStart
   replied =
       sym is
-      ∙ sized (eqb (length (s .numbers)) recordLength) (startReplied (started _ (s .memory)) (s .numbers)) _ refl
+      ∙ sized (eqb (length (s .fields)) recordLength) (startReplied (started _ (s .memory)) (s .fields)) _ refl
       (ap (λ (y : StartCall). y .number) is ∙ accepted)
-      ∙ ap (λ (y : Started). startReplied y (s .numbers)) (input-unread e (s .memory))
+      ∙ ap (λ (y : Started). startReplied y (s .fields)) (input-unread e (s .memory))
 
   number : begun .reply .refusal ≡ 0
   number = ap (λ (y : StartCall). y .number) (sym replied) ∙ accepted
@@ -114,14 +114,14 @@ module _ (e : Environment) (s : Slices) (x : StartCall)
 
   -- "A list of grants starts from the record and memory that an accepted start with the list's image left." Start is lent no input.
   pub calls-demand3 : (calls : List Call) (answers : List GrantCall) (last : Slices) → Chain e (x .slices) calls answers last →
-      CallsDemand3 e (x .slices .numbers) calls answers last
+      CallsDemand3 e (x .slices .fields) calls answers last
   calls-demand3 calls answers last ch =
       let from = heldAfterStart begun in
       let t = chain-answered e from started-fitting begins ch in
       record {
-        given = gives e from calls;
-        held = leaves e from calls;
+        given = allGranted e from calls;
+        held = heldAfterAll e from calls;
         demand3 = demand3 e (s .memory) calls passed;
-        answered = t .answers-are ∙ ap (λ (r : Slices). allReplied (r .numbers) (gives e from calls)) (sym begins);
+        answered = t .answers-are ∙ ap (λ (r : Slices). allReplied (r .fields) (allGranted e from calls)) (sym begins);
         left = t .last-is;
       }

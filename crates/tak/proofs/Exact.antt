@@ -20,7 +20,7 @@ use Rattle.model.specs.Step.{Environment, State}
 use Rattle.model.specs.declared.Parameters.{Parameters}
 use Rattle.model.specs.declared.Record.{Record}
 use Rattle.tak.specs.Calls.{Slices, heldIn, takGrant}
-use Rattle.tak.specs.Records.{held, most32, most64, at, recordFrom, numbersOf, recordLength}
+use Rattle.tak.specs.Records.{held, most32, most64, at, recordFrom, fieldsOf, recordLength}
 
 -- EXACT
 -- A number that is held as less than the greatest is held as itself.
@@ -43,8 +43,8 @@ all-elements zero i l h = sym (drop-of-length-le l {i = i} (omega arith))
 all-elements (suc n) i l h = rw (all-elements n (suc i) l (omega arith)) (sym (drop-cons l i (pos 0) (omega arith)))
 
 module _ (lent : Environment) (s : Slices) (c : Call) where
-  abbrev numbers : List ℤ
-  numbers = s .numbers
+  abbrev fields : List ℤ
+  fields = s .fields
 
   abbrev e : Environment
   e = environmentFor lent (heldIn s)
@@ -52,34 +52,34 @@ module _ (lent : Environment) (s : Slices) (c : Call) where
   abbrev account : Account State
   account = accountOf (heldIn s)
 
-  fields-exact : length numbers ≡ recordLength → grantRefusal e account c ≡ 0 → numbersOf (recordFrom numbers) ≡ numbers
+  fields-exact : length fields ≡ recordLength → grantRefusal e account c ≡ 0 → fieldsOf (recordFrom fields) ≡ fields
   fields-exact h r =
       let g = grant-accepted e account c r in
-      let l = limits (recordFrom numbers .parameters) (g .start .fit) in
+      let l = limits (recordFrom fields .parameters) (g .start .fit) in
       let a = record-sound e account (g .record-fits) (g .start .sized) in
-      let same : numbersOf (recordFrom numbers) ≡ elements recordLength 0 numbers =
+      let same : fieldsOf (recordFrom fields) ≡ elements recordLength 0 fields =
       λ i.
-      held-exact most32 (at numbers 0) (omega (arith, l .k-high)) i
-      ∷ held-exact most32 (at numbers 1) (omega (arith, l .n-high)) i
-      ∷ held-exact most32 (at numbers 2) (omega (arith, l .s-high)) i
-      ∷ held-exact most32 (at numbers 3) (omega (arith, l .b-high, l .s-high)) i
-      ∷ held-exact most32 (at numbers 4) (omega (arith, l .t-high)) i
-      ∷ held-exact most32 (at numbers 5) (omega (arith, a .state .iar, l .t-high)) i
-      ∷ held-exact most32 (at numbers 6) (omega (arith, a .state .ircr)) i
-      ∷ at numbers 7
-      ∷ held-exact most64 (at numbers 8) (omega (arith, a .state .place, g .input-length)) i
-      ∷ held-exact most64 (at numbers 9) (omega (arith, a .granted)) i
-      ∷ held-exact most64 (at numbers 10) (omega (arith, a .spent, a .granted)) i
+      held-exact most32 (at fields 0) (omega (arith, l .k-high)) i
+      ∷ held-exact most32 (at fields 1) (omega (arith, l .n-high)) i
+      ∷ held-exact most32 (at fields 2) (omega (arith, l .s-high)) i
+      ∷ held-exact most32 (at fields 3) (omega (arith, l .b-high, l .s-high)) i
+      ∷ held-exact most32 (at fields 4) (omega (arith, l .t-high)) i
+      ∷ held-exact most32 (at fields 5) (omega (arith, a .state .iar, l .t-high)) i
+      ∷ held-exact most32 (at fields 6) (omega (arith, a .state .ircr)) i
+      ∷ at fields 7
+      ∷ held-exact most64 (at fields 8) (omega (arith, a .state .place, g .input-length)) i
+      ∷ held-exact most64 (at fields 9) (omega (arith, a .granted)) i
+      ∷ held-exact most64 (at fields 10) (omega (arith, a .spent, a .granted)) i
       ∷ [] in
-      same ∙ all-elements recordLength 0 numbers (omega arith)
+      same ∙ all-elements recordLength 0 fields (omega arith)
 
   -- An accepted call of `tak_grant` was given the numbers of a record.
-  pub accepted-exact : length numbers ≡ recordLength → takGrant lent s c .number ≡ 0 →
-      numbersOf (recordFrom numbers) ≡ numbers
+  pub accepted-exact : length fields ≡ recordLength → takGrant lent s c .number ≡ 0 →
+      fieldsOf (recordFrom fields) ≡ fields
   unfolding takGrant
   accepted-exact h z =
       let n : outcomeNumber (granted lent (heldIn s) c .reply .outcome) ≡ 0 =
-      rw (eq-eqb (length numbers) recordLength h) at z in
+      rw (eq-eqb (length fields) recordLength h) at z in
       fields-exact h (sym (grant-number lent (heldIn s) c) ∙ n)
 
 -- READ BACK
@@ -100,7 +100,7 @@ held-back : (most n : ℕ) → n ≤ most → held most (pos n) ≡ n
 unfolding held
 held-back most n h = rw (le-leb n most h)
 
-pub read-back : (r : Record) → Fitting r → recordFrom (numbersOf r) ≡ r
+pub read-back : (r : Record) → Fitting r → recordFrom (fieldsOf r) ≡ r
 read-back r h i =
     record {
       parameters = record {

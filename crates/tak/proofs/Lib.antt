@@ -1,5 +1,5 @@
 pub mod Held
-pub mod Numbers
+pub mod Fields
 pub mod Narrow
 pub mod CallLaws
 pub mod Exact

@@ -10,11 +10,11 @@ use Rattle.machine.specs.Refusal10.{Refusal10}
 use Rattle.tak.specs.Records.{recordLength}
 use Rattle.tak.specs.Calls.{Slices, heldIn, StartCall, takStart, GrantCall, takGrant}
 
-module _ (e : Environment) (s : Slices) (h : length (s .numbers) ≡ recordLength) where
+module _ (e : Environment) (s : Slices) (h : length (s .fields) ≡ recordLength) where
   pub start-10 : (x : StartCall) → takStart e s ≡ x → Refusal10 e (s .memory) (x .number)
   unfolding takStart
-  start-10 x is = rw (← is, eq-eqb (length (s .numbers)) recordLength h) (started-10 e (s .memory))
+  start-10 x is = rw (← is, eq-eqb (length (s .fields)) recordLength h) (started-10 e (s .memory))
 
   pub grant-10 : (c : Call) (x : GrantCall) → takGrant e s c ≡ x → Refusal10 (environmentFor e (heldIn s)) (s .memory) (x .number)
   unfolding takGrant
-  grant-10 c x is = rw (← is, eq-eqb (length (s .numbers)) recordLength h) (granted-10 e (heldIn s) c)
+  grant-10 c x is = rw (← is, eq-eqb (length (s .fields)) recordLength h) (granted-10 e (heldIn s) c)

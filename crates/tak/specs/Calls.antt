@@ -39,15 +39,15 @@ takLoad p text image =
 
 -- THE SLICES that a caller keeps from call to call: the record, as numbers, and the memory.
 pub record Slices : Type 0 where
-  pub numbers : List ℤ
+  pub fields : List ℤ
   pub memory : Memory
 
-abbrev pub asSlices : (numbers registers cells : List ℤ) → Slices
-asSlices numbers registers cells = record { numbers = numbers; memory = asMemory registers cells }
+abbrev pub asSlices : (fields registers cells : List ℤ) → Slices
+asSlices fields registers cells = record { fields = fields; memory = asMemory registers cells }
 
 -- The record and memory that they are.
 abbrev pub heldIn : Slices → Held
-heldIn s = record { rec = recordFrom (s .numbers); memory = s .memory }
+heldIn s = record { rec = recordFrom (s .fields); memory = s .memory }
 
 -- START: what it returns, and the slices.
 pub record StartCall : Type 0 where
@@ -55,17 +55,17 @@ pub record StartCall : Type 0 where
   pub slices : Slices
 
 -- A start that document 01 answers by x.
-abbrev pub startReplied : Started → (numbers : List ℤ) → StartCall
-startReplied x numbers =
+abbrev pub startReplied : Started → (fields : List ℤ) → StartCall
+startReplied x fields =
     record {
       number = x .reply .refusal;
-      slices = record { numbers = recordAfter (x .reply .refusal) (x .reply .rec) numbers; memory = x .memory };
+      slices = record { fields = recordAfter (x .reply .refusal) (x .reply .rec) fields; memory = x .memory };
     }
 
 -- A record slice of another length is refused first, by TAK_RECORD_SIZE, 100; else document 01 answers.
 unfoldable pub takStart : Environment → Slices → StartCall
 takStart e s =
-    cond (eqb (length (s .numbers)) recordLength) (startReplied (started e (s .memory)) (s .numbers)) (record { number = 100; slices = s })
+    cond (eqb (length (s .fields)) recordLength) (startReplied (started e (s .memory)) (s .fields)) (record { number = 100; slices = s })
 
 -- TAK_FAILED, TAK_ENDED, TAK_PAUSED, TAK_OUTPUT_FULL.
 abbrev pub endingNumber : Ending → ℕ
@@ -89,23 +89,23 @@ pub record GrantCall : Type 0 where
   pub output : List ℤ
 
 -- A grant that document 01 answers by x.
-abbrev pub grantReplied : Granted → (numbers : List ℤ) → GrantCall
-grantReplied x numbers =
+abbrev pub grantReplied : Granted → (fields : List ℤ) → GrantCall
+grantReplied x fields =
     let number = outcomeNumber (x .reply .outcome) in
     record {
       number = number;
       ending = outcomeEnding (x .reply .outcome);
       values = x .reply .values;
       spent = x .reply .cycles;
-      slices = record { numbers = recordAfter number (x .reply .rec) numbers; memory = x .memory };
+      slices = record { fields = recordAfter number (x .reply .rec) fields; memory = x .memory };
       output = x .slice;
     }
 
 -- The same check first; else document 01 answers, for the record that the slice is, which has the parameters too.
 unfoldable pub takGrant : Environment → Slices → Call → GrantCall
 takGrant e s c =
-    cond (eqb (length (s .numbers)) recordLength)
-    (grantReplied (granted e (heldIn s) c) (s .numbers))
+    cond (eqb (length (s .fields)) recordLength)
+    (grantReplied (granted e (heldIn s) c) (s .fields))
     (record { number = 100; ending = 0; values = 0; spent = 0; slices = s; output = c .slice })
 
 -- DECIMAL: what it returns, the count of bytes written, the bytes.

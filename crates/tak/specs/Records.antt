@@ -42,8 +42,8 @@ recordFrom z =
     }
 
 -- The numbers of a record, in that order.
-abbrev pub numbersOf : Record → List ℤ
-numbersOf r =
+abbrev pub fieldsOf : Record → List ℤ
+fieldsOf r =
     pos (r .parameters .k)
     ∷ pos (r .parameters .n)
     ∷ pos (r .parameters .s)
@@ -59,7 +59,7 @@ numbersOf r =
 
 -- The record slice after a call: its record where the number is 0; a refusal leaves the slice.
 unfoldable pub recordAfter : (number : ℕ) → Record → (old : List ℤ) → List ℤ
-recordAfter number rec old = cond (eqb number 0) (numbersOf rec) old
+recordAfter number rec old = cond (eqb number 0) (fieldsOf rec) old
 
 -- The fields that could be too great for the signed numbers of a slice are not. An accepted call's record is so (proofs/Narrow.antt).
 pub record Narrow (r : Record) : Type 0 where

@@ -1,5 +1,5 @@
 // The machine for callers from C, as include/tak.h declares it: numbers and lent slices. No call has a `requires`: what does not fit is refused.
-// The header's record slice is `numbers` here, since contracts have another use for the word `record`.
+// The header's record slice is `fields` here, since contracts have another use for the word `record`.
 pub mod records;
 
 ghost use mathlib.Core.Path.{_≡_};
@@ -122,24 +122,24 @@ pub extern "C" fn tak_start(
     image: &[u32],
     registers: &mut [i32],
     cells: &mut [i32],
-    numbers: &mut [i64],
+    fields: &mut [i64],
 ) -> u32
     ensures { λ r. ⌜ takStart (environmentOf (parametersOf k n s b t) (now (image .entry)) [])
-        (asSlices (now (numbers .entry)) (now (registers .entry)) (now (cells .entry)))
-        ≡ record { number = r; slices = asSlices (now (numbers .exit)) (now (registers .exit)) (now (cells .exit)) } ⌝ }
+        (asSlices (now (fields .entry)) (now (registers .entry)) (now (cells .entry)))
+        ≡ record { number = r; slices = asSlices (now (fields .exit)) (now (registers .exit)) (now (cells .exit)) } ⌝ }
 {
-    if numbers.len() != RECORD {
+    if fields.len() != RECORD {
         return RECORD_SIZE;
     }
     let p = Parameters { k, n, s, b, t };
     let reply = start(p, image, registers, cells);
-    hand_back(reply.refusal, reply.rec, numbers);
+    hand_back(reply.refusal, reply.rec, fields);
     reply.refusal
 }
 
 // Grants cycles to the machine of a record slice.
 fn grant_to(
-    numbers: &mut [i64],
+    fields: &mut [i64],
     cycles: u64,
     image: &[u32],
     input: &[u8],
@@ -147,18 +147,18 @@ fn grant_to(
     cells: &mut [i32],
     output: &mut [i32],
 ) -> GrantNumbers
-    ensures { λ r. ⌜ takGrant (environmentOf (recordFrom (now (numbers .entry)) .parameters) (now (image .entry)) (now (input .entry)))
-        (asSlices (now (numbers .entry)) (now (registers .entry)) (now (cells .entry))) (asCall cycles (now (output .entry)))
+    ensures { λ r. ⌜ takGrant (environmentOf (recordFrom (now (fields .entry)) .parameters) (now (image .entry)) (now (input .entry)))
+        (asSlices (now (fields .entry)) (now (registers .entry)) (now (cells .entry))) (asCall cycles (now (output .entry)))
         ≡ record {
           number = r .refusal;
           ending = r .ending;
           values = r .values;
           spent = r .spent;
-          slices = asSlices (now (numbers .exit)) (now (registers .exit)) (now (cells .exit));
+          slices = asSlices (now (fields .exit)) (now (registers .exit)) (now (cells .exit));
           output = now (output .exit);
         } ⌝ }
 {
-    if numbers.len() != RECORD {
+    if fields.len() != RECORD {
         return GrantNumbers {
             refusal: RECORD_SIZE,
             ending: 0,
@@ -166,11 +166,11 @@ fn grant_to(
             spent: 0,
         };
     }
-    let rec = record_from(numbers);
+    let rec = record_from(fields);
     let reply = grant(rec, cycles, image, input, registers, cells, output);
     let outcome = reply.outcome;
     let refusal = outcome_number(outcome);
-    hand_back(refusal, reply.rec, numbers);
+    hand_back(refusal, reply.rec, fields);
     GrantNumbers {
         refusal,
         ending: outcome_ending(outcome),
@@ -182,7 +182,7 @@ fn grant_to(
 // Grants cycles: the refusal or 0, how it ended, the count of values in the output slice, the cycles spent in this call.
 #[no_mangle]
 pub extern "C" fn tak_grant(
-    numbers: &mut [i64],
+    fields: &mut [i64],
     cycles: u64,
     image: &[u32],
     input: &[u8],
@@ -193,18 +193,18 @@ pub extern "C" fn tak_grant(
     values: &mut u64,
     spent: &mut u64,
 ) -> u32
-    ensures { λ r. ⌜ takGrant (environmentOf (recordFrom (now (numbers .entry)) .parameters) (now (image .entry)) (now (input .entry)))
-        (asSlices (now (numbers .entry)) (now (registers .entry)) (now (cells .entry))) (asCall cycles (now (output .entry)))
+    ensures { λ r. ⌜ takGrant (environmentOf (recordFrom (now (fields .entry)) .parameters) (now (image .entry)) (now (input .entry)))
+        (asSlices (now (fields .entry)) (now (registers .entry)) (now (cells .entry))) (asCall cycles (now (output .entry)))
         ≡ record {
           number = r;
           ending = now (ending .exit);
           values = now (values .exit);
           spent = now (spent .exit);
-          slices = asSlices (now (numbers .exit)) (now (registers .exit)) (now (cells .exit));
+          slices = asSlices (now (fields .exit)) (now (registers .exit)) (now (cells .exit));
           output = now (output .exit);
         } ⌝ }
 {
-    let reported = grant_to(numbers, cycles, image, input, registers, cells, output);
+    let reported = grant_to(fields, cycles, image, input, registers, cells, output);
     *ending = reported.ending;
     *values = reported.values;
     *spent = reported.spent;

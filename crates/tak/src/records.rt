@@ -1,7 +1,7 @@
 // A record as a lent slice of numbers.
 ghost use mathlib.Core.Path.{_≡_};
 ghost use lib.ListN.{length};
-ghost use Rattle.tak.specs.Records.{held, most32, most64, recordFrom, numbersOf, recordAfter, Narrow, recordLength};
+ghost use Rattle.tak.specs.Records.{held, most32, most64, recordFrom, fieldsOf, recordAfter, Narrow, recordLength};
 use model::Parameters;
 use model::Record;
 
@@ -54,52 +54,52 @@ fn held_long(z: i64) -> u64
 }
 
 // The record that the numbers are.
-pub fn record_from(numbers: &[i64]) -> Record
-    requires { ⌜ length (now numbers) ≡ recordLength ⌝ }
-    ensures { λ r. ⌜ r ≡ recordFrom (now (numbers .entry)) ⌝ }
+pub fn record_from(fields: &[i64]) -> Record
+    requires { ⌜ length (now fields) ≡ recordLength ⌝ }
+    ensures { λ r. ⌜ r ≡ recordFrom (now (fields .entry)) ⌝ }
 {
     Record {
         parameters: Parameters {
-            k: held_short(numbers[K]),
-            n: held_short(numbers[N]),
-            s: held_short(numbers[S]),
-            b: held_short(numbers[B]),
-            t: held_short(numbers[T]),
+            k: held_short(fields[K]),
+            n: held_short(fields[N]),
+            s: held_short(fields[S]),
+            b: held_short(fields[B]),
+            t: held_short(fields[T]),
         },
-        iar: held_short(numbers[IAR]),
-        ircr: held_short(numbers[IRCR]),
-        shr: numbers[SHR],
-        place: held_long(numbers[PLACE]) as usize,
-        granted: held_long(numbers[GRANTED]),
-        spent: held_long(numbers[SPENT]),
+        iar: held_short(fields[IAR]),
+        ircr: held_short(fields[IRCR]),
+        shr: fields[SHR],
+        place: held_long(fields[PLACE]) as usize,
+        granted: held_long(fields[GRANTED]),
+        spent: held_long(fields[SPENT]),
     }
 }
 
 // Writes the numbers of a record.
-fn put_record(rec: Record, numbers: &mut [i64])
-    requires { ⌜ Narrow rec × (length (now numbers) ≡ recordLength) ⌝ }
-    ensures { λ _. ⌜ now (numbers .exit) ≡ numbersOf rec ⌝ }
+fn put_record(rec: Record, fields: &mut [i64])
+    requires { ⌜ Narrow rec × (length (now fields) ≡ recordLength) ⌝ }
+    ensures { λ _. ⌜ now (fields .exit) ≡ fieldsOf rec ⌝ }
 {
     let shr = rec.shr;
-    numbers[K] = rec.parameters.k as i64;
-    numbers[N] = rec.parameters.n as i64;
-    numbers[S] = rec.parameters.s as i64;
-    numbers[B] = rec.parameters.b as i64;
-    numbers[T] = rec.parameters.t as i64;
-    numbers[IAR] = rec.iar as i64;
-    numbers[IRCR] = rec.ircr as i64;
-    numbers[SHR] = shr;
-    numbers[PLACE] = rec.place as i64;
-    numbers[GRANTED] = rec.granted as i64;
-    numbers[SPENT] = rec.spent as i64;
+    fields[K] = rec.parameters.k as i64;
+    fields[N] = rec.parameters.n as i64;
+    fields[S] = rec.parameters.s as i64;
+    fields[B] = rec.parameters.b as i64;
+    fields[T] = rec.parameters.t as i64;
+    fields[IAR] = rec.iar as i64;
+    fields[IRCR] = rec.ircr as i64;
+    fields[SHR] = shr;
+    fields[PLACE] = rec.place as i64;
+    fields[GRANTED] = rec.granted as i64;
+    fields[SPENT] = rec.spent as i64;
 }
 
 // Writes the record of an accepted call; a refusal leaves the numbers.
-pub fn hand_back(refusal: u32, rec: Record, numbers: &mut [i64])
-    requires { ⌜ (refusal ≡ 0 → Narrow rec) × (length (now numbers) ≡ recordLength) ⌝ }
-    ensures { λ _. ⌜ now (numbers .exit) ≡ recordAfter refusal rec (now (numbers .entry)) ⌝ }
+pub fn hand_back(refusal: u32, rec: Record, fields: &mut [i64])
+    requires { ⌜ (refusal ≡ 0 → Narrow rec) × (length (now fields) ≡ recordLength) ⌝ }
+    ensures { λ _. ⌜ now (fields .exit) ≡ recordAfter refusal rec (now (fields .entry)) ⌝ }
 {
     if refusal == 0 {
-        put_record(rec, numbers);
+        put_record(rec, fields);
     }
 }

@@ -18,7 +18,7 @@ use settings::Scan;
 use settings::Transfer;
 use settings::after_call;
 use settings::contents;
-use settings::settle;
+use settings::settings_of;
 use settings::take_piece;
 
 // The greatest image, registers and data; the values of one grant, and the bytes of their lines with a last one.
@@ -59,11 +59,11 @@ fn read_parameters(bytes: &mut [u8]) -> Parameters
 {
     let fd = os::open_read(b"tak.par");
     if fd < 0 {
-        return settle(Scan::unread());
+        return settings_of(Scan::unread());
     }
     let scan = read_pieces(fd, bytes);
     libc::close(fd);
-    settle(scan)
+    settings_of(scan)
 }
 
 // Reads until the buffer is full or the file ends.

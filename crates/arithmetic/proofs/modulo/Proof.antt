@@ -5,7 +5,7 @@ use mir.Facts.{toZ-ofZ}
 use mir.Syntax.{w32}
 use mir.Val.{SFits}
 use Rattle.model.specs.Arithmetic.{remainder}
-use Rattle.cells.proofs.Integers.{widen, cast-fits, cast-same, quot-fits, rem-fits, is-zero, not-zero, wide-nonzero}
+use Rattle.bounds.proofs.Integers.{widen, cast-fits, cast-same, quot-fits, rem-fits, is-zero, not-zero, wide-nonzero}
 use Rattle.arithmetic.proofs.modulo.Statement.{statement}
 use Rattle.arithmetic.proofs.modulo.Tie as tie
 

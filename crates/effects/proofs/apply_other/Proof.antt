@@ -25,13 +25,13 @@ dump-requires-2 c κs = rw (c .before .before .if4 .taken) at (c .before .before
 returns-4 : tie.Need-returns-4
 returns-4 c = rw (c .before .before .before .before .if4 .taken) (refl, (refl, c .before .dump2 .ensures))
 
-put-requires : tie.Need-put-requires
-put-requires c κs = rw (c .before .if5 .taken) at (c .before .before .before .before .before .before .pre .1)
+output-value-requires : tie.Need-output-value-requires
+output-value-requires c κs = rw (c .before .if5 .taken) at (c .before .before .before .before .before .before .pre .1)
 
 returns-5 : tie.Need-returns-5
 returns-5 c =
     let start = c .before .before .before .before .before .before .before .before in
-    rw (c .before .before .before .if5 .taken) (refl, (refl, rw (toZ-ofZ (start .fits .value)) at (c .before .put .ensures)))
+    rw (c .before .before .before .if5 .taken) (refl, (refl, rw (toZ-ofZ (start .fits .value)) at (c .before .output-value .ensures)))
 
 returns-6 : tie.Need-returns-6
 returns-6 c =
@@ -43,4 +43,4 @@ apply-other-spec =
     tie.close
     (tie.spec (λ c κs. search needs) (λ c. search needs) returns (λ c κs. search needs) (λ c. search needs)
     returns-2 dump-requires (λ c. search needs) (λ c. search needs) returns-3 dump-requires-2 (λ c. search needs)
-    (λ c. search needs) returns-4 put-requires (λ c. search needs) returns-5 returns-6)
+    (λ c. search needs) returns-4 output-value-requires (λ c. search needs) returns-5 returns-6)

@@ -8,14 +8,14 @@ use borrow.Author.Needs.{needs}
 use Rattle.model.specs.Step.{asMemory, environmentOf}
 use Rattle.engine.specs.declared.looks.Found.the-variants.{Runs}
 use Rattle.engine.specs.Runs.{Runnable}
-use Rattle.engine.proofs.RunLaws.{found, Going-on, begins, stopped, cost-paid, cost-some, room-for, steppable, goes-on}
+use Rattle.engine.proofs.RunLaws.{found, RunInvariant, begins, stopped, cost-paid, cost-some, room-for, steppable, goes-on}
 use Rattle.engine.proofs.run.Statement.{statement}
 use Rattle.engine.proofs.run.Tie as tie
 
 abbrev Inv-loop : tie.InvT-loop
 Inv-loop p m image prices input before granted registers₀ cells₀ out₀ at₀ spent₀ count₀ registers cells out at spent count =
     Runnable (environmentOf p image input) m prices at₀ spent₀ granted (asMemory registers₀ cells₀)
-    × Going-on (environmentOf p image input) at₀ spent₀ granted (asMemory registers₀ cells₀) out₀ at spent count (asMemory registers cells) out
+    × RunInvariant (environmentOf p image input) at₀ spent₀ granted (asMemory registers₀ cells₀) out₀ at spent count (asMemory registers cells) out
 
 abbrev μ-loop : tie.MeasureT-loop
 μ-loop p m image prices input before granted registers₀ cells₀ out₀ at₀ spent₀ count₀ registers cells out at spent count =

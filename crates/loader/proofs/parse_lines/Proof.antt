@@ -65,8 +65,8 @@ returns-2 c =
     refused-line write p text image (at .loop .image) (leb (at .loop .i + 1 + left) (p .t)) (c .before .before .parsed .given .0 .0) (at .loop .i)
     (c .refuse-line .ensures) q (held-refused write p text image (at .loop .inv .1))
 
-put-cell-requires : tie.Need-put-cell-requires Inv-loop μ-loop
-put-cell-requires c κs =
+write-cell-requires : tie.Need-write-cell-requires Inv-loop μ-loop
+write-cell-requires c κs =
     let e = c .before .before .before .before .before .before .before in
     let at = e .before .before .before in
     let r = room (at .loop .inv .1 .few) (e .if1 .left) (at .loop .inv .0) in
@@ -123,5 +123,5 @@ parse-lines-spec =
     tie.close
     (tie.spec Inv-loop μ-loop (λ c. search needs) loop-holds (λ c κs. search needs) same-length returns
     (λ c. search needs) (λ c. search needs) (λ c. search needs) (λ c κs. search needs) (λ c. search needs)
-    (λ c κs. search needs) same-length-2 returns-2 (λ c. search needs) (λ c. search needs) put-cell-requires add-i
+    (λ c κs. search needs) same-length-2 returns-2 (λ c. search needs) (λ c. search needs) write-cell-requires add-i
     (λ c. search needs) loop-again same-length-3 returns-3)

@@ -4,7 +4,7 @@ use borrow.Author.Needs.{needs}
 use mir.Facts.{toZ-ofZ}
 use mir.Syntax.{w32}
 use mir.Val.{SFits}
-use Rattle.cells.proofs.LimitLaws.{one, at-most}
+use Rattle.bounds.proofs.LimitLaws.{one, at-most}
 use Rattle.numbers.specs.Reading.{answerOf}
 use Rattle.plans.proofs.PlanLaws.{input-none, input-some}
 use Rattle.plans.proofs.input.Statement.{statement}
@@ -43,7 +43,7 @@ returns-4 c =
     let n = r .before .before .before in
     let s = n .before .before in
     let f : SFits w32 (v .reading .given .0 .0) = record { sfits = c .before .known-told .given .0 .1 } in
-    c .put .ensures
+    c .store .ensures
     ∙ rw (toZ-ofZ f) (input-some (s .args .w) (s .args .m) (s .args .at) (s .args .bytes .now) _ _ (n .next-token .ensures) (r .before .before .if1 .left)
     (ap answerOf (sym (v .reading .given .1)) ∙ r .read-number .ensures .1))
 

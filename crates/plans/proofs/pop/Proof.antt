@@ -19,8 +19,8 @@ returns c =
 returns-2 : tie.Need-returns-2
 returns-2 c =
     let a = c .before .before .before .args in
-    let f : SFits w32 (getD (a .cells .now) (a .at .top - 1) (pos 0)) = record { sfits = c .before .put-arg .given } in
-    c .put .ensures ∙ rw (toZ-ofZ f) (pop-value (a .w) (a .b) (a .at) (a .cells .now) (c .before .before .if1 .left))
+    let f : SFits w32 (getD (a .cells .now) (a .at .top - 1) (pos 0)) = record { sfits = c .before .store-arg .given } in
+    c .store .ensures ∙ rw (toZ-ofZ f) (pop-value (a .w) (a .b) (a .at) (a .cells .now) (c .before .before .if1 .left))
 
 pub pop-spec : {M : Type 1} → statement M
 pop-spec =

@@ -17,13 +17,13 @@ returns-2 : tie.Need-returns-2
 returns-2 c =
     let s = c .before .before .before in
     let a = s .args in
-    c .put .ensures ∙ rw (toZ-pos w32 {n = a .at .top} (omega (arith, s .pre .1))) (push-head (a .w) (a .value) (a .s) (a .at) (c .before .before .if1 .left) (c .before .if2 .taken))
+    c .store .ensures ∙ rw (toZ-pos w32 {n = a .at .top} (omega (arith, s .pre .1))) (push-head (a .w) (a .value) (a .s) (a .at) (c .before .before .if1 .left) (c .before .if2 .taken))
 
 returns-3 : tie.Need-returns-3
 returns-3 c =
     let s = c .before .before .before in
     let a = s .args in
-    c .put2 .ensures ∙ rw (toZ-ofZ (s .fits .value)) (push-value (a .w) (a .value) (a .s) (a .at) (c .before .before .if1 .left) (c .before .if2 .left))
+    c .store2 .ensures ∙ rw (toZ-ofZ (s .fits .value)) (push-value (a .w) (a .value) (a .s) (a .at) (c .before .before .if1 .left) (c .before .if2 .left))
 
 pub push-spec : {M : Type 1} → statement M
 push-spec =

@@ -13,10 +13,10 @@ use Rattle.tak.proofs.grant_to.Tie as tie
 
 -- What the call was lent.
 abbrev lent : tie.Start → Environment
-lent s = environmentOf (recordFrom (s .args .numbers .now) .parameters) (s .args .image .now) (s .args .input .now)
+lent s = environmentOf (recordFrom (s .args .fields .now) .parameters) (s .args .image .now) (s .args .input .now)
 
 abbrev slices : tie.Start → Slices
-slices s = asSlices (s .args .numbers .now) (s .args .registers .now) (s .args .cells .now)
+slices s = asSlices (s .args .fields .now) (s .args .registers .now) (s .args .cells .now)
 
 abbrev call : tie.Start → Call
 call s = asCall (s .args .cycles) (s .args .output .now)

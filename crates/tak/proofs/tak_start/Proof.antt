@@ -13,7 +13,7 @@ abbrev lent : tie.Start → Environment
 lent s = environmentOf (parametersOf (s .args .k) (s .args .n) (s .args .s) (s .args .b) (s .args .t)) (s .args .image .now) []
 
 abbrev slices : tie.Start → Slices
-slices s = asSlices (s .args .numbers .now) (s .args .registers .now) (s .args .cells .now)
+slices s = asSlices (s .args .fields .now) (s .args .registers .now) (s .args .cells .now)
 
 returns : tie.Need-returns
 returns c =

@@ -8,8 +8,8 @@ use mir.Syntax.{w32, w64}
 use mir.Val.{SFits, toZ, ofZ}
 use Rattle.model.specs.Arithmetic.{bitsOf}
 use Rattle.model.proofs.Ranges.{bits-lt}
-use Rattle.cells.proofs.Integers.{cast-fits, cast-same}
-use Rattle.cells.proofs.LimitLaws.{one, at-most}
+use Rattle.bounds.proofs.Integers.{cast-fits, cast-same}
+use Rattle.bounds.proofs.LimitLaws.{one, at-most}
 use Rattle.bitwise.proofs.BitLaws.{bits-negative, bits-positive}
 use Rattle.bitwise.proofs.bits.bits.Statement.{statement}
 use Rattle.bitwise.proofs.bits.bits.Tie as tie

@@ -1,6 +1,6 @@
 use native.Mathlib.Omega.{arith}
 use mir.Facts.{toZ-ofZ}
-use Rattle.cells.proofs.Integers.{cast-fits}
+use Rattle.bounds.proofs.Integers.{cast-fits}
 use Rattle.bitwise.proofs.BitLaws.{shifted}
 use Rattle.bitwise.proofs.bits.double.Statement.{statement}
 use Rattle.bitwise.proofs.bits.double.Tie as tie

@@ -8,9 +8,9 @@ use mir.Syntax.{w32, w64}
 use mir.Val.{SFits, toZ, ofZ}
 use Rattle.model.specs.Arithmetic.{shiftLeft}
 use Rattle.model.proofs.Ranges.{shift-left-mag}
-use Rattle.cells.specs.Cells.{Within}
-use Rattle.cells.proofs.Integers.{widen, zero-minus, minus-limit-fits}
-use Rattle.cells.proofs.LimitLaws.{one, at-most, within-fits}
+use Rattle.bounds.specs.Bounds.{Within}
+use Rattle.bounds.proofs.Integers.{widen, zero-minus, minus-limit-fits}
+use Rattle.bounds.proofs.LimitLaws.{one, at-most, within-fits}
 use Rattle.bitwise.proofs.BitLaws.{double-below, double-above, double-inside}
 use Rattle.bitwise.proofs.bits.rsl.Statement.{statement}
 use Rattle.bitwise.proofs.bits.rsl.Tie as tie

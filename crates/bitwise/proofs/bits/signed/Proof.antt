@@ -8,9 +8,9 @@ use mir.Syntax.{w32, w64}
 use mir.Val.{SFits, toZ}
 use Rattle.model.specs.Arithmetic.{signedOf}
 use Rattle.model.proofs.Ranges.{signed-mag}
-use Rattle.cells.specs.Cells.{Within}
-use Rattle.cells.proofs.Integers.{widen}
-use Rattle.cells.proofs.LimitLaws.{one, at-most, within-fits}
+use Rattle.bounds.specs.Bounds.{Within}
+use Rattle.bounds.proofs.Integers.{widen}
+use Rattle.bounds.proofs.LimitLaws.{one, at-most, within-fits}
 use Rattle.bitwise.proofs.BitLaws.{signed-low, signed-high}
 use Rattle.bitwise.proofs.bits.signed.Statement.{statement}
 use Rattle.bitwise.proofs.bits.signed.Tie as tie

@@ -8,7 +8,7 @@ use Rattle.model.specs.Numbers.{natural}
 use Rattle.model.specs.Words.{Argument}
 use Rattle.model.specs.Load.{placed}
 use Rattle.model.proofs.Fits.{limits}
-use Rattle.loader.specs.Places.{indexedOf, placedOf}
+use Rattle.loader.specs.Places.{indexedOf, wordOrFaultOf}
 use Rattle.loader.proofs.ArgumentLaws.{after-none, after-other, after-m, direct-barred, direct-placed}
 use Rattle.loader.proofs.arguments.direct_word.Statement.{statement}
 use Rattle.loader.proofs.arguments.direct_word.Tie as tie
@@ -16,12 +16,12 @@ use Rattle.loader.proofs.arguments.direct_word.Tie as tie
 returns : tie.Need-returns
 returns c =
     let a = c .before .before .args in
-    sym (ap (λ (o : Option Argument). placedOf (placed (a .p) (a .form) o)) (after-none (now (a .w)) (omega arith)))
+    sym (ap (λ (o : Option Argument). wordOrFaultOf (placed (a .p) (a .form) o)) (after-none (now (a .w)) (omega arith)))
 
 returns-2 : tie.Need-returns-2
 returns-2 c =
     let a = c .before .before .before .before .before .args in
-    sym (ap (λ (o : Option Argument). placedOf (placed (a .p) (a .form) o)) (after-other (now (a .w)) (search needs) (λ e. c .if2 .taken (c .before .upper .ensures ∙ e))))
+    sym (ap (λ (o : Option Argument). wordOrFaultOf (placed (a .p) (a .form) o)) (after-other (now (a .w)) (search needs) (λ e. c .if2 .taken (c .before .upper .ensures ∙ e))))
 
 indexed-requires : tie.Need-indexed-requires
 indexed-requires c κs =
@@ -39,15 +39,15 @@ returns-3 c =
     c .indexed .ensures
     ∙ ap (indexedOf 2 (p .b)) (c .before .read-digits .ensures)
     ∙ direct-placed p (a .args .form) (c .before .before .if3 .taken) (omega (arith, l .b-high, l .s-high)) (natural (drop 2 w))
-    ∙ sym (ap (λ (o : Option Argument). placedOf (placed p (a .args .form) o)) (after-m w (search needs) m))
+    ∙ sym (ap (λ (o : Option Argument). wordOrFaultOf (placed p (a .args .form) o)) (after-m w (search needs) m))
 
 returns-4 : tie.Need-returns-4
 returns-4 c =
     let a = c .before .before .before .before .before .before .args in
     let w = now (a .w) in
     let m = sym (c .before .before .upper .ensures) ∙ c .before .if2 .left in
-    sym (ap (λ (o : Option Argument). placedOf (placed (a .p) (a .form) o)) (after-m w (search needs) m)
-    ∙ ap placedOf (direct-barred (a .p) (a .form) (c .if3 .left) (natural (drop 2 w))))
+    sym (ap (λ (o : Option Argument). wordOrFaultOf (placed (a .p) (a .form) o)) (after-m w (search needs) m)
+    ∙ ap wordOrFaultOf (direct-barred (a .p) (a .form) (c .if3 .left) (natural (drop 2 w))))
 
 pub direct-word-spec : {M : Type 1} → statement M
 direct-word-spec =

@@ -7,7 +7,7 @@ use lib.Signed.{mag}
 use mir.Facts.{toZ-ofZ}
 use mir.Val.{SFits}
 use mir.Syntax.{w64}
-use Rattle.cells.proofs.Integers.{cast-fits, cast-same}
+use Rattle.bounds.proofs.Integers.{cast-fits, cast-same}
 use Rattle.model.specs.Words.{numberKind, wordOf, numberBits}
 use Rattle.loader.proofs.ArgumentLaws.{word-negative, word-positive}
 use Rattle.loader.proofs.arguments.literal_word.Statement.{statement}

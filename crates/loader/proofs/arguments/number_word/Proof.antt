@@ -11,10 +11,10 @@ use mir.Syntax.{w32}
 use mir.Val.{SFits}
 use Rattle.model.specs.Words.{wordOf, numberBits, numberKind}
 use Rattle.numbers.proofs.ReadingLaws.{reading-range}
-use Rattle.loader.specs.declared.arguments.Placed.the-variants.{Word}
+use Rattle.loader.specs.declared.arguments.WordOrFault.the-variants.{Word}
 use Rattle.model.specs.Numbers.{number}
 use Rattle.model.proofs.Fits.{limits, limit-low, limit-high}
-use Rattle.loader.specs.Places.{placedOf}
+use Rattle.loader.specs.Places.{wordOrFaultOf}
 use Rattle.loader.proofs.ArgumentLaws.{numbered, number-barred, number-read}
 use Rattle.loader.proofs.arguments.number_word.Statement.{statement}
 use Rattle.loader.proofs.arguments.number_word.Tie as tie
@@ -40,7 +40,7 @@ number-fits c = record { sfits = omega (arith, number-size c) }
 returns : tie.Need-returns
 returns c =
     let a = c .before .before .args in
-    sym (ap placedOf (number-barred (a .p) (a .form) (c .if1 .taken) (number (now (a .w)))))
+    sym (ap wordOrFaultOf (number-barred (a .p) (a .form) (c .if1 .taken) (number (now (a .w)))))
 
 read-number-requires : tie.Need-read-number-requires
 read-number-requires c κs = limit-bounds (c .before .before)

@@ -5,7 +5,7 @@ use borrow.Author.Needs.{needs}
 use denote.Ref.{now}
 use Rattle.model.specs.Numbers.{natural}
 use Rattle.model.proofs.Fits.{limits}
-use Rattle.loader.specs.Places.{indexedOf, placedOf}
+use Rattle.loader.specs.Places.{indexedOf, wordOrFaultOf}
 use Rattle.loader.proofs.ArgumentLaws.{register-barred, register-placed}
 use Rattle.loader.proofs.arguments.register_word.Statement.{statement}
 use Rattle.loader.proofs.arguments.register_word.Tie as tie
@@ -28,7 +28,7 @@ returns c =
 returns-2 : tie.Need-returns-2
 returns-2 c =
     let a = c .before .before .args in
-    sym (ap placedOf (register-barred (a .p) (a .form) (c .if1 .left) (natural (drop 1 (now (a .w))))))
+    sym (ap wordOrFaultOf (register-barred (a .p) (a .form) (c .if1 .left) (natural (drop 1 (now (a .w))))))
 
 pub register-word-spec : {M : Type 1} → statement M
 register-word-spec = tie.close (tie.spec (λ c κs. search needs) indexed-requires returns returns-2)

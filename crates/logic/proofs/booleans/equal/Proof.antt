@@ -1,4 +1,4 @@
-use Rattle.cells.proofs.Integers.{eqZ-bits}
+use Rattle.bounds.proofs.Integers.{eqZ-bits}
 use Rattle.logic.proofs.booleans.equal.Statement.{statement}
 use Rattle.logic.proofs.booleans.equal.Tie as tie
 

@@ -13,7 +13,7 @@ returns : tie.Need-returns
 returns c =
     let a = c .before .before .before .args in
     λ image. by-numbers image (now (a .input)) (asHeld (a .rec) (now (a .registers)) (now (a .cells)))
-    (sym (c .before .numbers-fit .ensures) ∙ not-true _ (c .if1 .taken))
+    (sym (c .before .fields-fit .ensures) ∙ not-true _ (c .if1 .taken))
 
 limit-of-requires : tie.Need-limit-of-requires
 limit-of-requires c κs =
@@ -27,7 +27,7 @@ returns-2 c =
     let one = limit .before in
     let a = one .before .before .before .args in
     λ image. by-registers image (now (a .input)) (asHeld (a .rec) (now (a .registers)) (now (a .cells)))
-    (sym (one .before .numbers-fit .ensures) ∙ not-false _ (one .if1 .left)) _ (limit .limit-of .ensures .0)
+    (sym (one .before .fields-fit .ensures) ∙ not-false _ (one .if1 .left)) _ (limit .limit-of .ensures .0)
     (sym (c .before .values-fit .ensures) ∙ not-true _ (c .if2 .taken))
 
 returns-3 : tie.Need-returns-3
@@ -37,7 +37,7 @@ returns-3 c =
     let one = limit .before in
     let a = one .before .before .before .args in
     λ image. c .values-fit2 .ensures ∙ by-cells image (now (a .input)) (asHeld (a .rec) (now (a .registers)) (now (a .cells)))
-    (sym (one .before .numbers-fit .ensures) ∙ not-false _ (one .if1 .left)) _ (limit .limit-of .ensures .0)
+    (sym (one .before .fields-fit .ensures) ∙ not-false _ (one .if1 .left)) _ (limit .limit-of .ensures .0)
     (sym (two .before .values-fit .ensures) ∙ not-false _ (two .if2 .left))
 
 pub record-fits-spec : {M : Type 1} → statement M

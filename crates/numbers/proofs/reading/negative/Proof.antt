@@ -7,7 +7,7 @@ use lib.IntN.{pos, negℤ}
 use mir.Syntax.{w32}
 use mir.Val.{hbits, SFits}
 use mir.Facts.{toZ-pos, toZ-ofZ}
-use Rattle.cells.proofs.Integers.{mag-neg-pos, zero-minus}
+use Rattle.bounds.proofs.Integers.{mag-neg-pos, zero-minus}
 use Rattle.numbers.proofs.reading.negative.Statement.{statement}
 use Rattle.numbers.proofs.reading.negative.Tie as tie
 

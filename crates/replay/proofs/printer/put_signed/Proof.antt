@@ -7,7 +7,7 @@ use borrow.Author.Needs.{needs}
 use mir.Facts.{toZ-ofZ}
 use mir.Syntax.{w64}
 use mir.Val.{SFits, toZ, ofZ}
-use Rattle.cells.proofs.Integers.{size-positive}
+use Rattle.bounds.proofs.Integers.{size-positive}
 use Rattle.replay.proofs.Complements.{complement-negative}
 use Rattle.replay.proofs.printer.put_signed.Statement.{statement}
 use Rattle.replay.proofs.printer.put_signed.Tie as tie

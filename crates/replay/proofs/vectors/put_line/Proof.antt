@@ -2,7 +2,7 @@
 use borrow.Author.Needs.{needs}
 use mathlib.Core.Path.{sym, _∙_}
 use Rattle.model.proofs.Ranges.{range-mag}
-use Rattle.cells.proofs.LimitLaws.{one}
+use Rattle.bounds.proofs.LimitLaws.{one}
 use Rattle.replay.proofs.vectors.put_line.Statement.{statement}
 use Rattle.replay.proofs.vectors.put_line.Tie as tie
 

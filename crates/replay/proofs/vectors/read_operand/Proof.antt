@@ -1,6 +1,6 @@
 -- `read_operand` meets its contract. Assumes nothing.
 use borrow.Author.Needs.{needs}
-use Rattle.cells.proofs.LimitLaws.{one, at-most}
+use Rattle.bounds.proofs.LimitLaws.{one, at-most}
 use Rattle.replay.proofs.vectors.read_operand.Statement.{statement}
 use Rattle.replay.proofs.vectors.read_operand.Tie as tie
 

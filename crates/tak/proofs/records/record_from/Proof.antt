@@ -26,7 +26,7 @@ returns c i =
     let short3 = short4 .before .before in
     let short2 = short3 .before .before in
     let short1 = short2 .before .before in
-    let z = short1 .before .before .args .numbers .now in
+    let z = short1 .before .before .args .fields .now in
     record {
       parameters = record {
         k = held-read most32 (at z 0) (short1 .before .held-short-arg .given) (short1 .held-short .ensures) i;

@@ -6,7 +6,7 @@ use lib.Signed.{natAbs-le}
 use mir.Facts.{toZ-ofZ}
 use mir.Syntax.{w64}
 use mir.Val.{toZ, ofZ}
-use Rattle.cells.proofs.Integers.{cast-fits, cast-same, wide-minus-fits, size-negative, size-positive}
+use Rattle.bounds.proofs.Integers.{cast-fits, cast-same, wide-minus-fits, size-negative, size-positive}
 use Rattle.writer.proofs.decimal.magnitude.Statement.{statement}
 use Rattle.writer.proofs.decimal.magnitude.Tie as tie
 
