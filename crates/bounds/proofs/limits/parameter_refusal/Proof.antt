@@ -4,7 +4,7 @@ use mathlib.Core.Path.{_≡_, sym, _∙_}
 use mathlib.Core.Bool.{true, _&&_}
 use lib.Dec.{leb}
 use borrow.Author.Tests.{not-false, not-true, le-leb, lt-leb}
-use Rattle.model.specs.Parameters.{between, limit, parameterChecks}
+use Rattle.model.specs.Parameters.{between, limit, parameterChecks, maxRegisters, maxCells}
 use Rattle.model.proofs.Fits.{is-between}
 use Rattle.bounds.proofs.LimitLaws.{one}
 use Rattle.bounds.proofs.limits.parameter_refusal.Statement.{statement}
@@ -14,10 +14,10 @@ use Rattle.bounds.proofs.limits.parameter_refusal.Tie as tie
 bits : (c : tie.Else1) → between 8 30 (c .before .before .args .p .k) ≡ true
 bits c = sym (c .before .within .ensures) ∙ not-false _ (c .if1 .left)
 
-registers : (c : tie.Else2) → between 1 256 (c .before .before .before .before .args .p .n) ≡ true
+registers : (c : tie.Else2) → between 1 maxRegisters (c .before .before .before .before .args .p .n) ≡ true
 registers c = sym (c .before .within2 .ensures) ∙ not-false _ (c .if2 .left)
 
-cells : (c : tie.Else3) → (between 1 4096 (c .before .before .before .before .before .before .before .args .p .s) && leb (c .before .before .before .before .before .before .before .args .p .s) (limit (c .before .before .before .before .before .before .before .args .p .k) - 1)) ≡ true
+cells : (c : tie.Else3) → (between 1 maxCells (c .before .before .before .before .before .before .before .args .p .s) && leb (c .before .before .before .before .before .before .before .args .p .s) (limit (c .before .before .before .before .before .before .before .args .p .k) - 1)) ≡ true
 cells c = rw (c .before .before .limit-of .ensures .0) at (sym (c .before .countable .ensures) ∙ not-false _ (c .if3 .left))
 
 returns : tie.Need-returns
