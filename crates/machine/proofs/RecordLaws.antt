@@ -16,7 +16,7 @@ use mir.Syntax.{w32, w64}
 use mir.Val.{SFits, toZ, ofZ}
 use Rattle.model.proofs.Fits.{pass-append}
 use Rattle.model.specs.Calls.{Held, allInRange, recordTests, memoryTests, recordFits, accountOf}
-use Rattle.model.specs.Parameters.{limit, inRange}
+use Rattle.model.specs.Parameters.{limit, inRange, maxGranted}
 use Rattle.model.specs.Step.{environmentOf}
 use Rattle.model.specs.declared.Parameters.{Parameters}
 use Rattle.model.specs.declared.Record.{Record}
@@ -69,7 +69,7 @@ module _ (r : Record) (input : ℕ) where
       abbrev heads : Bool
       heads = headFits (r .parameters .b) (r .parameters .s) (r .shr)
 
-      behind : fieldsFit r input ≡ (heads && (leb (r .spent) (r .granted) && (leb (r .granted) 1_000_000_000_000_000 && (leb (r .place) input && true))))
+      behind : fieldsFit r input ≡ (heads && (leb (r .spent) (r .granted) && (leb (r .granted) maxGranted && (leb (r .place) input && true))))
       behind = rw (le-leb _ _ iar, le-leb _ _ ircr) (sym (and-assoc (leZ (pos (r .parameters .b) -ℤ pos 1) (r .shr)) _ _))
 
       pub by-head : heads ≡ false → false ≡ fieldsFit r input
@@ -80,10 +80,10 @@ module _ (r : Record) (input : ℕ) where
         by-spent h = sym (behind ∙ rw (head, lt-leb _ _ h))
 
         module _ (spent : r .spent ≤ r .granted) where
-          pub by-granted : 1_000_000_000_000_000 < r .granted → false ≡ fieldsFit r input
+          pub by-granted : maxGranted < r .granted → false ≡ fieldsFit r input
           by-granted h = sym (behind ∙ rw (head, le-leb _ _ spent, lt-leb _ _ h))
 
-          pub by-place : r .granted ≤ 1_000_000_000_000_000 → leb (r .place) input ≡ fieldsFit r input
+          pub by-place : r .granted ≤ maxGranted → leb (r .place) input ≡ fieldsFit r input
           by-place h = sym (behind ∙ rw (head, le-leb _ _ spent, le-leb _ _ h, and-true))
 
 -- THE RECORD: its numbers, the registers and the data cells.

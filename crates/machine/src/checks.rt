@@ -4,7 +4,7 @@ ghost use mathlib.Core.Bool.{_&&_};
 ghost use mathlib.Core.List.{List, []};
 ghost use Prim.Native.Nat.{ℕ, _≤_};
 ghost use lib.IntN.{ℤ};
-ghost use Rattle.model.specs.Parameters.{refusalOf, Fit};
+ghost use Rattle.model.specs.Parameters.{refusalOf, Fit, maxGranted};
 ghost use Rattle.model.specs.Calls.{asHeld, asCall, shapeChecks, memoryFits, startChecks, allInRange, recordFits, grantRefusal, accountOf};
 ghost use Rattle.bounds.specs.Bounds.{IsLimit};
 ghost use Rattle.model.specs.Step.{asMemory, environmentOf};
@@ -129,7 +129,7 @@ fn record_fits(rec: Record, input: &[u8], registers: &[i32], cells: &[i32]) -> b
 
 // Not 17. The cycles are tested first, so that the sum cannot wrap.
 fn cycles_fit(granted: u64, cycles: u64) -> bool
-    requires { ⌜ granted ≤ 1_000_000_000_000_000 ⌝ }
+    requires { ⌜ granted ≤ maxGranted ⌝ }
     ensures { λ r. ⌜ r ≡ cyclesFit granted cycles ⌝ }
 {
     if cycles <= Record::MAX_GRANT {
