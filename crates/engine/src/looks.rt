@@ -3,12 +3,12 @@ ghost use mathlib.Core.Path.{_≡_};
 ghost use mathlib.Core.Bool.{true};
 ghost use mathlib.Core.List.{List};
 ghost use Prim.Native.Nat.{ℕ, _*_, _≤_};
-ghost use lib.IntN.{ℤ};
 ghost use lib.ListN.{length};
 ghost use Rattle.model.specs.Images.{imageFits};
 ghost use Rattle.prices.specs.Prices.{priceTable};
-ghost use Rattle.operands.specs.Cores.{stateOf};
-ghost use Rattle.model.specs.Step.{environmentOf};
+ghost use Rattle.operands.specs.Cores.{stateIn};
+ghost use Rattle.model.proofs.Fits.{Sized};
+ghost use Rattle.model.specs.Step.{Memory, environmentOf};
 ghost use Rattle.engine.specs.Looks.{foundAt};
 use image::decode::Instruction;
 use image::decode::read_cell;
@@ -44,7 +44,7 @@ pub fn look(
     requires { ⌜ length (now image) ≡ 4 * p .t ⌝ }
     requires { ⌜ imageFits p (now image) ≡ true ⌝ }
     requires { ⌜ at .iar ≤ p .t ⌝ }
-    ensures { λ r. ⌜ ((input : List ℕ) (registers cells : List ℤ) → length registers ≡ p .n → length cells ≡ p .s → r ≡ foundAt (environmentOf p (now (image .entry)) input) (stateOf at registers cells) allowance room) ⌝ }
+    ensures { λ r. ⌜ ((input : List ℕ) (m : Memory) → Sized p m → r ≡ foundAt (environmentOf p (now (image .entry)) input) (stateIn at m) allowance room) ⌝ }
 {
     if at.ircr != 0 {
         return Found::Stops(Ending::Failed);

@@ -12,7 +12,7 @@ use Rattle.model.proofs.Fits.{both, is-between, Limits, limits}
 use Rattle.model.proofs.Keeps.{value-mag}
 use Rattle.model.proofs.Ranges.{row-range}
 use Rattle.model.specs.Images.{cellFits}
-use Rattle.model.specs.Instructions.{rowOf}
+use Rattle.model.specs.Instructions.{instructionCount, rowOf}
 use Rattle.model.specs.Parameters.{limit, between}
 use Rattle.model.specs.Step.{asMemory, State, environmentOf, valueOf, execute, settled}
 use Rattle.model.specs.declared.Parameters.{Parameters}
@@ -70,7 +70,7 @@ module _ {i : Instruction} {p : Parameters} {m : ℕ} {at : Core} {input : List 
   pub choosable : {x y : ℤ} → x ≡ valueOf s (i .first) → y ≡ valueOf s (i .second) → Choosable (i .number) p m x y at registers cells input
   unfolding cellFits
   choosable e f =
-      let n = is-between 1 54 (i .number) (both (between 1 54 (i .number)) _ (h .instruction) .0) in
+      let n = is-between 1 instructionCount (i .number) (both (between 1 instructionCount (i .number)) _ (h .instruction) .0) in
       record {
         from = n .0;
         to = n .1;

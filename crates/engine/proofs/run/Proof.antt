@@ -25,7 +25,9 @@ abbrev μ-loop : tie.MeasureT-loop
 the-look : (c : tie.After-look Inv-loop μ-loop) → c .look .result ≡ found (c .before .loop .inv .0) (c .before .loop .inv .1)
 the-look c =
     let at = c .before .loop in
-    c .look .ensures (c .before .before .before .before .before .args .input .now) (at .registers) (at .cells) (at .inv .1 .sound .register-count) (at .inv .1 .sound .cell-count)
+    let s = at .inv .1 .sound in
+    c .look .ensures (c .before .before .before .before .before .args .input .now) (asMemory (at .registers) (at .cells))
+    (record { register-count = s .register-count; cell-count = s .cell-count })
 
 long-enough : (c : tie.Start Inv-loop μ-loop) → length (c .args .out .now) * 4 < 2 ^ 64
 long-enough c = omega (arith, c .good)

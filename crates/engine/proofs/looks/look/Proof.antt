@@ -2,7 +2,7 @@
 use borrow.Author.Needs.{needs}
 use denote.Ref.{now}
 use Rattle.model.specs.Step.{environmentOf}
-use Rattle.operands.specs.Cores.{stateOf}
+use Rattle.operands.specs.Cores.{stateIn}
 use Rattle.engine.proofs.LookLaws.{Reads, is-fit, found-failed, found-end, found-empty, found-paused, found-full, found-runs}
 use Rattle.engine.proofs.looks.look.Statement.{statement}
 use Rattle.engine.proofs.looks.look.Tie as tie
@@ -15,19 +15,19 @@ reads c =
     record { fits = start .pre .1 .1 .0; succeeded = inside .before .before .if1 .left; within = start .pre .1 .1 .1; not-last = inside .if2 .left; read = c .read-cell .ensures }
 
 returns : tie.Need-returns
-returns c input registers cells n s =
+returns c input m z =
     let start = c .before .before .before .before in
-    found-failed (environmentOf (start .args .p) (now (start .args .image)) input) (stateOf (start .args .at) registers cells) (start .args .allowance) (start .args .room) (c .if1 .taken)
+    found-failed (environmentOf (start .args .p) (now (start .args .image)) input) (stateIn (start .args .at) m) (start .args .allowance) (start .args .room) (c .if1 .taken)
 
 returns-2 : tie.Need-returns-2
-returns-2 c input registers cells n s =
+returns-2 c input m z =
     let start = c .before .before .before .before .before .before in
-    found-end (environmentOf (start .args .p) (now (start .args .image)) input) (stateOf (start .args .at) registers cells) (start .args .allowance) (start .args .room) (c .before .before .if1 .left) (c .if2 .taken)
+    found-end (environmentOf (start .args .p) (now (start .args .image)) input) (stateIn (start .args .at) m) (start .args .allowance) (start .args .room) (c .before .before .if1 .left) (c .if2 .taken)
 
 returns-3 : tie.Need-returns-3
-returns-3 c input registers cells n s =
+returns-3 c input m z =
     let start = c .before .before .before .before .before .before .before .before .before in
-    found-empty (reads (c .before)) input registers cells (start .args .allowance) (start .args .room) (c .if3 .taken)
+    found-empty (reads (c .before)) input (m .registers) (m .cells) (start .args .allowance) (start .args .room) (c .if3 .taken)
 
 cost-requires : tie.Need-cost-requires
 cost-requires c κs =
@@ -35,24 +35,24 @@ cost-requires c κs =
     (start .pre .0, is-fit (reads (c .before)) (c .if3 .left))
 
 returns-4 : tie.Need-returns-4
-returns-4 c input registers cells n s =
+returns-4 c input m z =
     let cell = c .before .before in
     let start = cell .before .before .before .before .before .before .before .before .before in
-    found-paused (reads (cell .before)) input registers cells (start .args .allowance) (start .args .room) (cell .if3 .left) (c .before .cost .ensures) (c .if4 .taken)
+    found-paused (reads (cell .before)) input (m .registers) (m .cells) (start .args .allowance) (start .args .room) (cell .if3 .left) (c .before .cost .ensures) (c .if4 .taken)
 
 returns-5 : tie.Need-returns-5
-returns-5 c input registers cells n s =
+returns-5 c input m z =
     let afford = c .before .before in
     let cell = afford .before .before in
     let start = cell .before .before .before .before .before .before .before .before .before in
-    found-full (reads (cell .before)) input registers cells (start .args .allowance) (start .args .room) (cell .if3 .left) (afford .before .cost .ensures) (afford .if4 .left) (c .before .value-count .ensures) n s (c .if5 .taken)
+    found-full (reads (cell .before)) input (m .registers) (m .cells) (start .args .allowance) (start .args .room) (cell .if3 .left) (afford .before .cost .ensures) (afford .if4 .left) (c .before .value-count .ensures) (z .register-count) (z .cell-count) (c .if5 .taken)
 
 returns-6 : tie.Need-returns-6
-returns-6 c input registers cells n s =
+returns-6 c input m z =
     let afford = c .before .before in
     let cell = afford .before .before in
     let start = cell .before .before .before .before .before .before .before .before .before in
-    found-runs (reads (cell .before)) input registers cells (start .args .allowance) (start .args .room) (cell .if3 .left) (afford .before .cost .ensures) (afford .if4 .left) (c .before .value-count .ensures) n s (c .if5 .left)
+    found-runs (reads (cell .before)) input (m .registers) (m .cells) (start .args .allowance) (start .args .room) (cell .if3 .left) (afford .before .cost .ensures) (afford .if4 .left) (c .before .value-count .ensures) (z .register-count) (z .cell-count) (c .if5 .left)
 
 pub look-spec : {M : Type 1} → statement M
 look-spec =
