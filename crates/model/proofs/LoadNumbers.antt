@@ -10,9 +10,8 @@ use lib.Dec.{eqb, leb}
 use lib.ListN.{length}
 use borrow.Author.Tests.{le-leb, lt-leb, ne-eqb}
 use Rattle.model.specs.declared.Parameters.{Parameters}
-use Rattle.model.specs.declared.LoadReply.{LoadReply}
 use Rattle.model.specs.declared.LoadReply.the-variants.{Accepted, Refused}
-use Rattle.model.specs.Parameters.{Check, _unless_, refusalOf, parameterChecks}
+use Rattle.model.specs.Parameters.{Check, refusalOf, parameterChecks}
 use Rattle.model.specs.Words.{Argument, argumentWord, Cell}
 use Rattle.model.specs.Instructions.{rowOf}
 use Rattle.model.specs.Load.{

@@ -1,5 +1,5 @@
 -- `parse_lines` meets its contract, by the laws of TextLaws at each way out of the loop and each turn. Assumes nothing.
-use Prim.Native.Nat.{ℕ, _+_, _*_, _-_, _<_}
+use Prim.Native.Nat.{_+_, _*_, _-_, _<_}
 use mathlib.Core.List.{_∷_, []}
 use mathlib.Core.Logic.{⊎-elim}
 use mathlib.Core.Path.{_≡_, sym, ap, _∙_}

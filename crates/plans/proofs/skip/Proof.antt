@@ -1,11 +1,8 @@
 -- `skip` meets its contract. Assumes nothing.
-use Prim.Native.Nat.{_+_}
 use native.Mathlib.Omega.{arith}
-use lib.IntN.{pos}
 use borrow.Author.Needs.{needs}
 use mir.Facts.{toZ-ofZ, toZ-pos}
 use mir.Syntax.{w32}
-use mir.Val.{SFits}
 use Rattle.plans.proofs.skip.Statement.{statement}
 use Rattle.plans.proofs.skip.Tie as tie
 

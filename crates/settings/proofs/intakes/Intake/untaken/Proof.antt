@@ -3,7 +3,6 @@ use mathlib.Core.Path.{ap}
 use borrow.Author.Needs.{needs}
 use Rattle.settings.specs.Transfers.{mostCalls}
 use Rattle.settings.specs.declared.Scan.{Scan}
-use Rattle.settings.specs.declared.intakes.Intake.{Intake}
 use Rattle.settings.proofs.intakes.Intake.untaken.Statement.{statement}
 use Rattle.settings.proofs.intakes.Intake.untaken.Tie as tie
 
