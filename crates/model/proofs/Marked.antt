@@ -115,7 +115,7 @@ said (grants a b) = grants b b
 
 pub marks : List Mark
 marks =
-    words (length rows ∷ []) (instructionCount ∷ [])
+    words (instructionCount ∷ []) (54 ∷ [])
     ∷ words (firstCell "SET R0 13") (0x8 ∷ 0x40000000 ∷ 0xC000000D ∷ 0 ∷ [])
     ∷ words (firstCell "SET R0 -10") (0x8 ∷ 0x40000000 ∷ 0xFFFFFFF6 ∷ 0 ∷ [])
     ∷ values (registers "SET R0 13\nSET R1 -10\nDIV R0 R1 R1") (pos 13 ∷ negsuc 0 ∷ [])

@@ -6,7 +6,7 @@ use mathlib.Core.List.{List, [], _∷_}
 use lib.Bits.{bitAnd, bitOr, bitXor}
 use lib.Dec.{eqb}
 use lib.IntN.{ℤ, pos, negℤ, natAbs, _+ℤ_, _-ℤ_, _*ℤ_}
-use lib.ListN.{getD}
+use lib.ListN.{length, getD}
 use lib.Signed.{ltZ, leZ}
 use Rattle.model.specs.declared.Parameters.{Parameters}
 use Rattle.model.specs.Parameters.{eqZ, booleanOf}
@@ -157,9 +157,9 @@ rows =
     ∷ shift "ASR" shiftRightSigned
     ∷ []
 
--- "Numbers run from 1 .. (54)": the rows are as many, by proofs/Marked.antt.
+-- "Numbers run from 1 .. (54)".
 abbrev pub instructionCount : ℕ
-instructionCount = 54
+instructionCount = length rows
 
 -- The row of an instruction's number. A head that is none, which no fit image has, gets NOP's.
 unfoldable pub rowOf : ℕ → Row
