@@ -1,4 +1,4 @@
--- What the contracts of `cells` say beside the definitions of `model`.
+-- What the contracts of `bounds` say beside the definitions of `model`.
 use Prim.Native.Nat.{ℕ, _≤_, _<_}
 use mathlib.Core.Path.{_≡_}
 use lib.IntN.{ℤ}
