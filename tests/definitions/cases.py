@@ -217,16 +217,17 @@ loads p text old =
 
 starts : Parameters → List ℕ → List ℤ → List ℤ → List ℤ
 starts p image registers cells =
-    let x = started p image registers cells in
-    (pos (x .reply .refusal) ∷ flat (x .reply .rec)) ++ x .registers ++ x .cells
+    let x = started (environmentOf p image []) (asMemory registers cells) in
+    (pos (x .reply .refusal) ∷ flat (x .reply .rec)) ++ x .memory .registers ++ x .memory .cells
 
 spells : ℤ → List ℕ → List ℤ
 spells z old = let x = spelled z old in map pos ((x .reply .refusal ∷ x .reply .count ∷ []) ++ x .bytes)
 
 grants : List ℕ → List ℕ → Record → List ℤ → List ℤ → ℕ → List ℤ → List ℤ
 grants image input r registers cells cycles slice =
-    let x = granted image input r registers cells (record { cycles = cycles; slice = slice }) in
-    outcome (x .reply .outcome) ++ flat (x .reply .rec) ++ (pos (x .reply .values) ∷ pos (x .reply .cycles) ∷ []) ++ x .registers ++ x .cells ++ x .slice
+    let x = granted (environmentOf (r .parameters) image input) (asHeld r registers cells) (asCall cycles slice) in
+    outcome (x .reply .outcome) ++ flat (x .reply .rec) ++ (pos (x .reply .values) ∷ pos (x .reply .cycles) ∷ [])
+    ++ x .memory .registers ++ x .memory .cells ++ x .slice
 """
 
 USES = """use Prim.Native.Nat.{ℕ}
@@ -240,7 +241,9 @@ use Rattle.model.specs.declared.Ending.{Ending}
 use Rattle.model.specs.declared.Ending.the-variants.{Failed, Ended, Paused, OutputFull}
 use Rattle.model.specs.declared.Outcome.{Outcome}
 use Rattle.model.specs.declared.Outcome.the-variants.{Refused, Stopped}
-use Rattle.model.specs.Load.{imageAfter}"""
+use Rattle.model.specs.Load.{imageAfter}
+use Rattle.model.specs.Step.{environmentOf, asMemory}
+use Rattle.model.specs.Calls.{asHeld, asCall}"""
 
 
 def main():

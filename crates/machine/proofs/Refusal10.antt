@@ -24,17 +24,17 @@ module _ (e : Environment) (m : Memory) where
 
 -- GRANT
 module _ (e : Environment) (held : Held) (c : Call) where
-  abbrev lent : Environment
-  lent = environmentFor e held
+  abbrev own : Environment
+  own = environmentFor e held
 
-  granting-10 : Refusal10 lent (held .memory) (grantRefusal lent (accountOf held) c)
+  granting-10 : Refusal10 own (held .memory) (grantRefusal own (accountOf held) c)
   unfolding grantRefusal grantChecks startChecks
   granting-10 =
       rw append-assoc
-      (record { given = sized-gives-10 lent (held .memory) _ refl; otherwise = sized-unless-10 lent (held .memory) _ refl })
+      (record { given = sized-gives-10 own (held .memory) _ refl; otherwise = sized-unless-10 own (held .memory) _ refl })
 
-  pub granted-10 : Refusal10 lent (held .memory) (outcomeNumber (granted e held c .reply .outcome))
+  pub granted-10 : Refusal10 own (held .memory) (outcomeNumber (granted e held c .reply .outcome))
   granted-10 = rw (grant-number e held c) granting-10
 
-  pub grant-10 : {x : Granted} → GrantIs e held c x → Refusal10 lent (held .memory) (outcomeNumber (x .reply .outcome))
+  pub grant-10 : {x : Granted} → GrantIs e held c x → Refusal10 own (held .memory) (outcomeNumber (x .reply .outcome))
   grant-10 g = rw (g .number) granting-10

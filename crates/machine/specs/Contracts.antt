@@ -16,14 +16,14 @@ pub record StartIs (e : Environment) (m : Memory) (x : Started) : Type 0 where
 -- Grant's promise. The paper's number of its outcome is that of the first check that does not pass, 0 if all do. The paper's word of its ending
 -- is that of the record and memory handed back, with the room left in the output slice; a refusal has none.
 module _ (e : Environment) (h : Held) (c : Call) where
-  abbrev lent : Environment
-  lent = environmentFor e h
+  abbrev own : Environment
+  own = environmentFor e h
 
   abbrev refusal : ℕ
-  refusal = grantRefusal lent (accountOf h) c
+  refusal = grantRefusal own (accountOf h) c
 
   pub record GrantIs (x : Granted) : Type 0 where
     pub given : x ≡ granted e h c
     pub number : outcomeNumber (x .reply .outcome) ≡ refusal
     pub word : outcomeWord (x .reply .outcome)
-        ≡ cond (eqb refusal 0) (stopWord lent (accountOf (heldAfter x)) (length (c .slice) - x .reply .values)) []
+        ≡ cond (eqb refusal 0) (stopWord own (accountOf (heldAfter x)) (length (c .slice) - x .reply .values)) []

@@ -7,7 +7,7 @@ use native.Mathlib.Nat.{le-refl}
 use native.Mathlib.Omega.{arith}
 use lib.ListN.{length}
 use borrow.Author.Tests.{leb-true, le-leb}
-use Rattle.model.specs.Parameters.{Fit, refusalOf}
+use Rattle.model.specs.Parameters.{Fit, maxGranted, refusalOf}
 use Rattle.model.specs.Images.{imageFits}
 use Rattle.model.specs.Machine.{goes}
 use Rattle.model.specs.Grants.{Call, Account, RunState, handBack, refuse, advance, lookFrom, run, accept, grant}
@@ -40,7 +40,7 @@ module _ (e : Environment) (granted before : ℕ) where
 pub record AccountSound (e : Environment) (a : Account State) : Type 0 where
   pub state : Sound e (a .state)
   pub spent : a .spent ≤ a .granted
-  pub granted : a .granted ≤ 1_000_000_000_000_000
+  pub granted : a .granted ≤ maxGranted
 
 module _ (e : Environment) (a : Account State) where
   abbrev tests : List Bool
@@ -71,7 +71,7 @@ module _ (e : Environment) (a : Account State) where
           cell-count = n .cell-count;
         };
         spent = leb-true (a .spent) (a .granted) (spent .0);
-        granted = leb-true (a .granted) 1_000_000_000_000_000 (granted .0);
+        granted = leb-true (a .granted) maxGranted (granted .0);
       }
 
   pub sound-record : AccountSound e a → recordFits e a ≡ true
@@ -81,7 +81,7 @@ module _ (e : Environment) (a : Account State) where
       let iar = le-leb (a .state .iar) (e .parameters .t) (s .iar) in
       let ircr = le-leb (a .state .ircr) 3 (s .ircr) in
       let spent = le-leb (a .spent) (a .granted) (h .spent) in
-      let granted = le-leb (a .granted) 1_000_000_000_000_000 (h .granted) in
+      let granted = le-leb (a .granted) maxGranted (h .granted) in
       let place = le-leb (a .state .place) (length (e .input)) (s .place) in
       all-pass tests (iar, (ircr, (s .low, (s .high, (spent, (granted, (place, (s .registers, (s .cells, tt)))))))))
 

@@ -190,8 +190,8 @@ environmentFor e h = withParameters (h .rec .parameters) e
 -- Grant. "The result is the ending, the new record, the number of values written and the cycles spent in this call."
 unfoldable pub granted : Environment → Held → Call → Granted
 granted e h c =
-    let lent = environmentFor e h in
-    grantedBy (h .rec .parameters) (grant (Tak lent) (grantRefusal lent) (accountOf h) c)
+    let own = environmentFor e h in
+    grantedBy (h .rec .parameters) (grant (Tak own) (grantRefusal own) (accountOf h) c)
 
 -- The paper's number of an outcome: the refusal's, 0 for an accepted grant.
 unfoldable pub outcomeNumber : Outcome → ℕ

@@ -19,7 +19,7 @@ use text::tokens::next_token;
 const SHR_WORD: u32 = FIRST_REGISTER + SHR;
 
 // A value, where it goes, and where the machine stands after the step. A failing step has its code in `next.ircr`, and nothing else counts.
-// `to` is the word of a register or data cell, or one of the targets below, which are smaller than every word.
+// `to` is the word of a register or data cell, or one of the targets below, which are smaller.
 pub struct Plan {
     pub value: i32,
     pub to: u32,

@@ -101,8 +101,8 @@ full-ending Paused h = cc
 full-ending OutputFull h = refl
 
 module _ (e : Environment) (h : Held) (c : Call) (room : 4096 ≤ length (c .slice)) where
-  abbrev lent : Environment
-  lent = environmentFor e h
+  abbrev own : Environment
+  own = environmentFor e h
 
   abbrev before : Account State
   before = accountOf h
@@ -110,14 +110,14 @@ module _ (e : Environment) (h : Held) (c : Call) (room : 4096 ≤ length (c .sli
   -- After a full output more is spent than before, and not more than granted.
   pub full-progress : isFull (granted e h c .reply .outcome) ≡ true → Progress (h .rec) (c .cycles) (granted e h c .reply .rec)
   unfolding granted accept handBack
-  full-progress full = go (grantRefusal lent before c) refl
+  full-progress full = go (grantRefusal own before c) refl
     where
-      go : (k : ℕ) → grantRefusal lent before c ≡ k → Progress (h .rec) (c .cycles) (granted e h c .reply .rec)
+      go : (k : ℕ) → grantRefusal own before c ≡ k → Progress (h .rec) (c .cycles) (granted e h c .reply .rec)
       go zero z =
-          let kept = grant-kept lent before c z in
-          let q = lists.grant-accepted (Tak lent) (grantRefusal lent) before c z in
+          let kept = grant-kept own before c z in
+          let q = lists.grant-accepted (Tak own) (grantRefusal own) before c z in
           let f = rw q at full in
-          record { spends = rw q (stop-spends lent before c z room (full-ending _ f)); within = kept .sound .spent; granted = kept .granted }
+          record { spends = rw q (stop-spends own before c z room (full-ending _ f)); within = kept .sound .spent; granted = kept .granted }
       go (suc k) z =
           let refused = ap (λ (x : Granted). isFull (x .reply .outcome)) (grant-refused e h c k z) in
           absurd (let z : _≡_ {A = ℕ} 0 1 = cc in omega arith)

@@ -114,14 +114,14 @@ module _ (g : GrantReply) {lines : List ℕ} {at : ℕ} where
 
 -- A GRANT
 module _ (e : Environment) (h : Held) (c : Call) where
-  abbrev lent : Environment
-  lent = environmentFor e h
+  abbrev own : Environment
+  own = environmentFor e h
 
   abbrev result : Granted
   result = granted e h c
 
   abbrev refusal : ℕ
-  refusal = grantRefusal lent (accountOf h) c
+  refusal = grantRefusal own (accountOf h) c
 
   -- The values that a grant says it wrote stand in its slice.
   pub values-fit : result .reply .values ≤ length (result .slice)
@@ -129,7 +129,7 @@ module _ (e : Environment) (h : Held) (c : Call) where
   values-fit = go refusal refl
     where
       go : (k : ℕ) → refusal ≡ k → result .reply .values ≤ length (result .slice)
-      go zero z = rw (lists.grant-accepted (Tak lent) (grantRefusal lent) (accountOf h) c z) (rw length-append (omega arith))
+      go zero z = rw (lists.grant-accepted (Tak own) (grantRefusal own) (accountOf h) c z) (rw length-append (omega arith))
       go (suc k) z = let q = grant-refused e h c k z in omega (arith, ap (λ (x : Granted). x .reply .values) q)
 
 pub written-fits : {e : Environment} {h : Held} {c : Call} {x : Granted} → GrantIs e h c x → x .reply .values ≤ length (x .slice)

@@ -28,7 +28,7 @@ use Rattle.model.specs.declared.Parameters.{Parameters}
 use Rattle.model.specs.declared.Record.{Record}
 use Rattle.model.specs.declared.StartReply.{StartReply}
 use Rattle.session.specs.Runs.{Grants, last, next, Run, refused, granted as goes}
-use Rattle.session.specs.Sessions.{startLine, Shows, Sizes, OpenBy, OpenIs}
+use Rattle.session.specs.Sessions.{startLine, Shows, Sizes, OpenBy, OpenIs, ReportIs}
 use Rattle.session.specs.declared.Report.{Report}
 
 -- The bytes that a call puts in front of the buffer.
@@ -82,16 +82,34 @@ module _ (e : Environment) (n cycles : ℕ) (h : Held) where
   unfolding grantLines
   lines-next q = rw (q, grantLines)
 
+-- A grant has the parameters of its record, whatever those of the environment are.
+own-report : {e : Environment} {h : Held} {c : Call} {lines : List ℕ} {r : Report} {memory₁ : Memory} {values₁ : List ℤ} {lines₁ : List ℕ} →
+    ReportIs (environmentFor e h) h c lines r memory₁ values₁ lines₁ → ReportIs e h c lines r memory₁ values₁ lines₁
+unfolding granted
+own-report is =
+    record {
+      shows = is .shows;
+      more = is .more;
+      rec = is .rec;
+      cycles = is .cycles;
+      memory = is .memory;
+      values = is .values;
+      size = is .size;
+      progress = is .progress;
+    }
+
 -- From a record on whose cycles, with the next grant's, are more than spent by less than n.
 grants-print : (e : Environment) {h : Held} {c : Call} {lines out : List ℕ} → Grants e h c lines out → length (c .slice) ≡ sliceValues →
     (n : ℕ) → h .rec .granted + c .cycles - h .rec .spent < n → out ≡ grantLines e n (c .cycles) h
 grants-print e (last is more) size zero l = absurd (omega arith)
 grants-print e (next is more rest) size zero l = absurd (omega arith)
-grants-print e {h} {c} (last is more) size (suc n) l =
+grants-print e {h} {c} (last met more) size (suc n) l =
+    let is = own-report {e = e} met in
     let a = alike e h (c .cycles) (c .slice) (replicate sliceValues (pos 0)) (size ∙ sym (length-replicate sliceValues (pos 0))) in
     let full = ap isFull (ap (λ (x : GrantReply). x .outcome) (sym (a .reply))) ∙ sym (is .more) ∙ more in
     shows-text (is .shows) ∙ a .lines ∙ sym (append-nil _) ∙ sym (lines-last e n (c .cycles) h full)
-grants-print e {h} {c} (next is more rest) size (suc n) l =
+grants-print e {h} {c} (next met more rest) size (suc n) l =
+    let is = own-report {e = e} met in
     let a = alike e h (c .cycles) (c .slice) (replicate sliceValues (pos 0)) (size ∙ sym (length-replicate sliceValues (pos 0))) in
     let full = ap isFull (ap (λ (x : GrantReply). x .outcome) (sym (a .reply))) ∙ sym (is .more) ∙ more in
     let on = is .progress more in

@@ -5,7 +5,7 @@ use mathlib.Core.List.{List, _++_}
 use mathlib.Core.Path.{_≡_}
 use lib.IntN.{ℤ}
 use lib.ListN.{take}
-use Rattle.model.specs.Calls.{Held, asCall}
+use Rattle.model.specs.Calls.{Held, asCall, environmentFor}
 use Rattle.model.specs.Grants.{Call}
 use Rattle.model.specs.Step.{Environment, environmentOf, Memory}
 use Rattle.model.specs.declared.Parameters.{Parameters}
@@ -16,14 +16,14 @@ use Rattle.session.specs.declared.Report.{Report}
 abbrev heldBy : Report → Memory → Held
 heldBy r m = record { rec = r .rec; memory = m }
 
--- Calls of `run_grant`, each with the record, the cycles and the buffers that the call before it left, until one says that no more follows.
+-- Calls of `run_grant`, each with the parameters of its record, the record, the cycles and the buffers that the call before it left, until one says that no more follows.
 pub data Grants (e : Environment) : Held → Call → (lines out : List ℕ) → Type 0 where
   last : {h : Held} {c : Call} {memory₁ : Memory} {values₁ : List ℤ} {lines lines₁ : List ℕ} {r : Report} →
-      ReportIs e h c lines r memory₁ values₁ lines₁ →
+      ReportIs (environmentFor e h) h c lines r memory₁ values₁ lines₁ →
       r .more ≡ false →
       Grants e h c lines (take (r .count) lines₁)
   next : {h : Held} {c : Call} {memory₁ : Memory} {values₁ : List ℤ} {lines lines₁ out : List ℕ} {r : Report} →
-      ReportIs e h c lines r memory₁ values₁ lines₁ →
+      ReportIs (environmentFor e h) h c lines r memory₁ values₁ lines₁ →
       r .more ≡ true →
       Grants e (heldBy r memory₁) (asCall (r .cycles) values₁) lines₁ out →
       Grants e h c lines (take (r .count) lines₁ ++ out)

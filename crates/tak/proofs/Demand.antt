@@ -19,7 +19,7 @@ use Rattle.model.specs.Parameters.{refusalOf}
 use Rattle.model.specs.Step.{Environment, environmentOf}
 use Rattle.model.specs.declared.Record.{Record}
 use Rattle.machine.proofs.Demand.{input-unread}
-use Rattle.tak.specs.Calls.{Slices, StartCall, startReplied, takStart, GrantCall, grantReplied, takGrant}
+use Rattle.tak.specs.Calls.{Slices, heldIn, StartCall, startReplied, takStart, GrantCall, grantReplied, takGrant}
 use Rattle.tak.specs.Lists.{Chain, nothing, called, allReplied, CallsDemand3}
 use Rattle.tak.specs.Records.{recordAfter, fieldsOf, recordLength}
 use Rattle.tak.proofs.Exact.{Fitting, read-back, fresh-fitting, granted-fitting}
@@ -59,6 +59,11 @@ module _ (e : Environment) (h : Held) (w : Fitting (h .rec)) (c : Call) where
   after : grantReplied given (fieldsOf (h .rec)) .slices ≡ slicesOf (heldAfter given)
   after i = record { fields = next .fields i; memory = given .memory }
 
+-- A grant has the parameters of its record slice, whatever those of the environment are.
+own-grant : (e : Environment) (s : Slices) (c : Call) → takGrant (environmentFor e (heldIn s)) s c ≡ takGrant e s c
+unfolding takGrant granted
+own-grant e s c = refl
+
 -- A LIST OF GRANTS
 record Answered (e : Environment) (h : Held) (calls : List Call) (answers : List GrantCall) (last : Slices) : Type 0 where
   answers-are : answers ≡ allReplied (fieldsOf (h .rec)) (allGranted e h calls)
@@ -72,7 +77,7 @@ module _ (e : Environment) where
   chain-answered h w i (called {s} {c} {x} {cs} q ch) =
       let g = granted e h c in
       let n = next e h w c in
-      let y : x ≡ grantReplied g (fieldsOf (h .rec)) = sym q ∙ ap (λ (t : Slices). takGrant e t c) i ∙ answered e h w c in
+      let y : x ≡ grantReplied g (fieldsOf (h .rec)) = sym q ∙ own-grant e s c ∙ ap (λ (t : Slices). takGrant e t c) i ∙ answered e h w c in
       let t = chain-answered (heldAfter g) (n .fitting) (ap (λ (z : GrantCall). z .slices) y ∙ after e h w c) ch in
       record {
         answers-are = (λ j. y j ∷ t .answers-are j)

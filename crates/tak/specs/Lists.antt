@@ -2,11 +2,11 @@
 use mathlib.Core.List.{List, [], _∷_}
 use mathlib.Core.Path.{_≡_}
 use lib.IntN.{ℤ}
-use Rattle.model.specs.Calls.{Held, Granted}
+use Rattle.model.specs.Calls.{Held, environmentFor, Granted}
 use Rattle.model.specs.Demand.{Demand3}
 use Rattle.model.specs.Grants.{Call}
 use Rattle.model.specs.Step.{Environment}
-use Rattle.tak.specs.Calls.{Slices, GrantCall, grantReplied, takGrant}
+use Rattle.tak.specs.Calls.{Slices, heldIn, GrantCall, grantReplied, takGrant}
 use Rattle.tak.specs.Records.{fieldsOf}
 
 -- From the slices `s`: the calls, what each returned and left, and the slices after the last one. Each is lent the slices that the one before it
@@ -14,7 +14,7 @@ use Rattle.tak.specs.Records.{fieldsOf}
 pub data Chain (e : Environment) : (s : Slices) → List Call → List GrantCall → (last : Slices) → Type 0 where
   nothing : {s : Slices} → Chain e s [] [] s
   called : {s last : Slices} {c : Call} {x : GrantCall} {cs : List Call} {xs : List GrantCall} →
-      takGrant e s c ≡ x →
+      takGrant (environmentFor e (heldIn s)) s c ≡ x →
       Chain e (x .slices) cs xs last →
       Chain e s (c ∷ cs) (x ∷ xs) last
 
