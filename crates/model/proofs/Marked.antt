@@ -16,7 +16,7 @@ use Rattle.model.specs.declared.LoadReply.the-variants as load
 use Rattle.model.specs.Parameters.{refusalOf, parameterChecks}
 use Rattle.model.specs.Numbers.{bytes, digitsFrom, digitsOf}
 use Rattle.model.specs.Arithmetic.{checked, divide, remainder, negation, logic, bitsOf, signedOf, bitwise, shiftLeft, shiftRight, shiftRightSigned}
-use Rattle.model.specs.Instructions.{rows, instructionCount, rowOf, directs, costOf}
+use Rattle.model.specs.Instructions.{instructionCount, rowOf, directs, costOf}
 use Rattle.model.specs.Load.{linesFrom, wordsFrom, sameWord, lookupFrom, names, specialOf, plain, argument, allows, isWithin, argumentsFrom, lineCell, linesReply, linesWords, textReply, imageOf, loadChecks, loadReply}
 use Rattle.model.specs.Images.{wordFits, wordsFit, cellFits, allZero, cellsFit}
 use Rattle.model.specs.Machine.{look, lookAt}
