@@ -17,7 +17,7 @@ use Rattle.model.proofs.Fits.{both, is-between, limits}
 use Rattle.bounds.specs.Bounds.{IsLimit}
 use Rattle.model.proofs.Rows.{row-rule}
 use Rattle.image.specs.Forms.{packed}
-use Rattle.image.specs.Decode.{placeFits, placesFit}
+use Rattle.image.specs.Decode.{argumentWordFits, argumentWordsFit}
 
 pub is-limit : (p : Parameters) {m : ℕ} → Fit p → m ≡ limit (p .k) → IsLimit m
 is-limit p f e = let l = limits p f in record { k = p .k; low = l .k-low; high = l .k-high; is = e }
@@ -64,17 +64,17 @@ arePacked [] = true
 arePacked (f ∷ fs) = between 1 15 f && arePacked fs
 
 module _ (p : Parameters) (x y z : ℕ) where
-  present : (f w : ℕ) → 1 ≤ f → placeFits p f w ≡ wordFits p f w
-  unfolding placeFits
+  present : (f w : ℕ) → 1 ≤ f → argumentWordFits p f w ≡ wordFits p f w
+  unfolding argumentWordFits
   present f w h = rw (ne-eqb f 0 (λ e. omega arith))
 
   unpacked : (n a b c : ℕ) → n % 16 ≡ a → n / 16 % 16 ≡ b → n / 256 ≡ c →
-      placesFit p n x y z ≡ (placeFits p a x && (placeFits p b y && placeFits p c z))
-  unfolding placesFit
+      argumentWordsFit p n x y z ≡ (argumentWordFits p a x && (argumentWordFits p b y && argumentWordFits p c z))
+  unfolding argumentWordsFit
   unpacked n a b c e g h = rw (e, g, h)
 
-  words-fit : (fs : List ℕ) → length fs ≤ 3 → arePacked fs ≡ true → wordsFit p fs (x ∷ y ∷ z ∷ []) ≡ placesFit p (packed fs) x y z
-  unfolding wordsFit packed placeFits
+  words-fit : (fs : List ℕ) → length fs ≤ 3 → arePacked fs ≡ true → wordsFit p fs (x ∷ y ∷ z ∷ []) ≡ argumentWordsFit p (packed fs) x y z
+  unfolding wordsFit packed argumentWordFits
   words-fit [] l h = sym (unpacked 0 0 0 0 refl refl refl ∙ rw (and-true (eqb z 0)))
   words-fit (f ∷ []) l h =
       let a = is-between 1 15 f (both (between 1 15 f) true h .0) in
@@ -109,7 +109,7 @@ module _ (p : Parameters) (c : Cell) where
   unfolding cellFits
   cell-high l h = rw (le-leb 1 (c .head) l, lt-leb (c .head) instructionCount h)
 
-  pub cell-between : 1 ≤ c .head → c .head ≤ instructionCount → cellFits p c ≡ placesFit p (packed (rowOf (c .head) .forms)) (c .first) (c .second) (c .third)
+  pub cell-between : 1 ≤ c .head → c .head ≤ instructionCount → cellFits p c ≡ argumentWordsFit p (packed (rowOf (c .head) .forms)) (c .first) (c .second) (c .third)
   unfolding cellFits
   cell-between l h =
       let fs = rowOf (c .head) .forms in

@@ -18,12 +18,12 @@ abbrev pub cellFrom : Instruction → Cell
 cellFrom i = record { head = i .number; first = i .first; second = i .second; third = i .third }
 
 -- A word at a place with this form; "An absent argument is 0", and has form 0.
-unfoldable pub placeFits : Parameters → (form word : ℕ) → Bool
-placeFits p form w = cond (eqb form 0) (eqb w 0) (wordFits p form w)
+unfoldable pub argumentWordFits : Parameters → (form word : ℕ) → Bool
+argumentWordFits p form w = cond (eqb form 0) (eqb w 0) (wordFits p form w)
 
 -- The three words at the places of packed forms.
-unfoldable pub placesFit : Parameters → (forms first second third : ℕ) → Bool
-placesFit p f x y z = placeFits p (f % 16) x && (placeFits p (f / 16 % 16) y && placeFits p (f / 256) z)
+unfoldable pub argumentWordsFit : Parameters → (forms first second third : ℕ) → Bool
+argumentWordsFit p f x y z = argumentWordFits p (f % 16) x && (argumentWordFits p (f / 16 % 16) y && argumentWordFits p (f / 256) z)
 
 -- An empty cell, an instruction that a text can yield, or neither.
 unfoldable pub decodedOf : Parameters → Cell → Decoded

@@ -6,7 +6,7 @@ ghost use Rattle.model.specs.Parameters.{limit, maxRegisters, Fit};
 ghost use Rattle.model.specs.Words.{cellOf, isEmpty};
 ghost use Rattle.model.specs.Images.{registerFits, wordFits, cellFits};
 ghost use Rattle.image.specs.Forms.{formTable};
-ghost use Rattle.image.specs.Decode.{instructionOf, cellFrom, placeFits, placesFit, decodedOf};
+ghost use Rattle.image.specs.Decode.{instructionOf, cellFrom, argumentWordFits, argumentWordsFit, decodedOf};
 use crate::forms::INSTRUCTIONS;
 use crate::forms::forms_of;
 use crate::words::content;
@@ -81,10 +81,10 @@ fn word_fits(p: Parameters, m: u32, form: u32, w: u32) -> bool
 }
 
 // The same, where a place with form 0 has no argument.
-fn place_fits(p: Parameters, m: u32, form: u32, w: u32) -> bool
+fn argument_word_fits(p: Parameters, m: u32, form: u32, w: u32) -> bool
     requires { ⌜ Fit p ⌝ }
     requires { ⌜ m ≡ limit (p .k) ⌝ }
-    ensures { λ r. ⌜ r ≡ placeFits p form w ⌝ }
+    ensures { λ r. ⌜ r ≡ argumentWordFits p form w ⌝ }
 {
     if form == 0 {
         return w == 0;
@@ -96,15 +96,15 @@ fn place_fits(p: Parameters, m: u32, form: u32, w: u32) -> bool
 fn arguments_fit(p: Parameters, m: u32, forms: u32, i: Instruction) -> bool
     requires { ⌜ Fit p ⌝ }
     requires { ⌜ m ≡ limit (p .k) ⌝ }
-    ensures { λ r. ⌜ r ≡ placesFit p forms (i .first) (i .second) (i .third) ⌝ }
+    ensures { λ r. ⌜ r ≡ argumentWordsFit p forms (i .first) (i .second) (i .third) ⌝ }
 {
-    if !place_fits(p, m, forms % 16, i.first) {
+    if !argument_word_fits(p, m, forms % 16, i.first) {
         return false;
     }
-    if !place_fits(p, m, forms / 16 % 16, i.second) {
+    if !argument_word_fits(p, m, forms / 16 % 16, i.second) {
         return false;
     }
-    place_fits(p, m, forms / 256, i.third)
+    argument_word_fits(p, m, forms / 256, i.third)
 }
 
 // An instruction's number, and arguments as its row has them.

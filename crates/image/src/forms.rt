@@ -7,6 +7,9 @@ ghost use Rattle.image.specs.Forms.{packed, formTable};
 // How many instructions there are.
 pub const INSTRUCTIONS: u32 = 54;
 
+// The number of NOP, which a line without words is.
+pub const NOP: u32 = 44;
+
 // By number, from 1 on: the form of the first argument, 16 times that of the second and 256 times that of the third. An absent one has 0.
 const FORMS: [u32; INSTRUCTIONS as usize] = [
     0x000,

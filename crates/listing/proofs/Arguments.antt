@@ -14,7 +14,7 @@ use Rattle.model.specs.declared.Parameters.{Parameters}
 use Rattle.model.specs.Parameters.{between, limit}
 use Rattle.model.specs.Words.{Argument, register, special, direct, literal, argumentWord, wordOf, kindOf, contentOf, numberBits, numberOf, registerKind, directKind, numberKind, iarNumber, ircrNumber, shrNumber}
 use Rattle.model.specs.Numbers.{bytes, upper, natural, mapped, number, decimal}
-use Rattle.model.specs.Load.{sameWord, specialOf, afterD, plain, argument, allows, isWithin, fine, fault, placed}
+use Rattle.model.specs.Load.{sameWord, specialOf, afterD, plain, argument, allows, isWithin, fine, fault, checkedArgument}
 use Rattle.model.specs.Images.{wordFits}
 use Rattle.model.proofs.Fits.{both, and-both, by-cond, is-between, Limits, limit-low, limit-high}
 use Rattle.model.proofs.Decimals.{Leading, Plain, is-zero, is-positive, is-negative, decimal-plain, natural-digits, number-decimal}
@@ -137,14 +137,14 @@ module _ (p : Parameters) (form w : ℕ) where
       go false true e f h = direct-suits (eqb-true (kindOf w) directKind f) h
       go false false e f h = let g = both (eqb (kindOf w) numberKind) _ h in literal-suits (eqb-true (kindOf w) numberKind (g .0)) (g .1)
 
-  suits-placed : (a : Argument) → Suits p form w a → placed p form (argument (argumentText a)) ≡ fine w
-  suits-placed a s =
+  suits-checked : (a : Argument) → Suits p form w a → checkedArgument p form (argument (argumentText a)) ≡ fine w
+  suits-checked a s =
       let (allowed, within) = both (allows form a) (isWithin p a) (s .accepted) in
-      ap (placed p form) (argument-back a (s .named)) ∙ rw (allowed, within) (ap fine (s .word))
+      ap (checkedArgument p form) (argument-back a (s .named)) ∙ rw (allowed, within) (ap fine (s .word))
 
   -- The text of a word that fits is read back as that word.
-  pub word-back : wordFits p form w ≡ true → placed p form (argument (argumentText (argumentOf w))) ≡ fine w
-  word-back h = suits-placed (argumentOf w) (word-suits h)
+  pub word-back : wordFits p form w ≡ true → checkedArgument p form (argument (argumentText (argumentOf w))) ≡ fine w
+  word-back h = suits-checked (argumentOf w) (word-suits h)
 
 -- TO A WORD THAT FITS
 -- Whatever text is read, a special register is one of three.
@@ -258,10 +258,10 @@ module _ (p : Parameters) (limits : Limits p) (form : ℕ) where
       literal-fits p form (wordOf numberKind (numberBits z)) z (word-kind numberKind (numberBits z) small) content h
 
   -- What is accepted at a place fits there.
-  pub placed-fits : (w : List ℕ) (x : ℕ) → placed p form (argument w) ≡ fine x → wordFits p form x ≡ true
-  placed-fits w x = go (argument w) (argument-named w)
+  pub checked-fits : (w : List ℕ) (x : ℕ) → checkedArgument p form (argument w) ≡ fine x → wordFits p form x ≡ true
+  checked-fits w x = go (argument w) (argument-named w)
     where
-      go : (o : Option Argument) → NamedIn o → placed p form o ≡ fine x → wordFits p form x ≡ true
+      go : (o : Option Argument) → NamedIn o → checkedArgument p form o ≡ fine x → wordFits p form x ≡ true
       go none n e = cc
       go (some a) n e = at (allows form a) (isWithin p a) refl refl e
         where

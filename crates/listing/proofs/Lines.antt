@@ -10,15 +10,15 @@ use borrow.Author.Tests.{eqb-true, eqb-false, eq-eqb, ne-eqb, le-leb}
 use Rattle.model.specs.declared.Parameters.{Parameters}
 use Rattle.model.specs.Parameters.{between}
 use Rattle.model.specs.Words.{Cell, cellWith, isEmpty}
-use Rattle.model.specs.Instructions.{rows, rowOf}
-use Rattle.model.specs.Load.{lookup, argument, Checked, fine, fault, placed, argumentsFrom, headed, lineCell, lineOf}
+use Rattle.model.specs.Instructions.{rows, nopNumber, rowOf}
+use Rattle.model.specs.Load.{lookup, argument, Checked, fine, fault, checkedArgument, argumentsFrom, headed, lineCell, lineOf}
 use Rattle.model.specs.Images.{wordFits, wordsFit, cellFits}
 use Rattle.model.proofs.Fits.{both, and-both, is-between, Limits}
 use Rattle.listing.specs.Listing.{argumentOf, argumentText, instructionWords, spaced}
 use Rattle.listing.proofs.Bytes.{areWords, words-back}
 use Rattle.model.proofs.Rows.{lookup-number}
 use Rattle.listing.proofs.Rows.{name-word, three-forms, name-back}
-use Rattle.listing.proofs.Arguments.{text-word, word-back, placed-fits}
+use Rattle.listing.proofs.Arguments.{text-word, word-back, checked-fits}
 
 -- The text of an image word.
 abbrev text : ℕ → List ℕ
@@ -49,7 +49,7 @@ three-padded (x ∷ y ∷ z ∷ xs) = refl
 
 module _ (p : Parameters) where
   -- "for each argument from the left"
-  argument-step : (xs fs : List ℕ) (f x : ℕ) (w : List ℕ) (ws : List (List ℕ)) → placed p f (argument w) ≡ fine x →
+  argument-step : (xs fs : List ℕ) (f x : ℕ) (w : List ℕ) (ws : List (List ℕ)) → checkedArgument p f (argument w) ≡ fine x →
       argumentsFrom p xs (f ∷ fs) (w ∷ ws) ≡ argumentsFrom p (xs ++ (x ∷ [])) fs ws
   unfolding argumentsFrom
   argument-step xs fs f x w ws e = simp (argumentsFrom, e)
@@ -141,8 +141,8 @@ module _ (p : Parameters) where
       let k = padded-fits 3 (rowOf n .forms) xs (three-forms n) f in
       and-both (and-both (le-leb 1 n l) (le-leb n (length rows) h)) (rw (three-padded xs) at k)
 
-  -- "A line without words is NOP", number 44.
-  nop-fits : cellFits p (cellWith 44 []) ≡ true
+  -- "A line without words is NOP."
+  nop-fits : cellFits p (cellWith nopNumber []) ≡ true
   unfolding cellFits wordsFit rowOf
   nop-fits = refl
 
@@ -151,19 +151,19 @@ module _ (p : Parameters) where
     unfolding argumentsFrom wordsFit
     arguments-fit [] ws xs ys h = let e : ys ≡ xs = cc in record { behind = []; whole = e ∙ sym (append-nil xs); fit = refl }
     arguments-fit (f ∷ fs) [] xs ys h = let z : _≡_ {A = ℕ} 0 1 = cc in absurd (omega arith)
-    arguments-fit (f ∷ fs) (w ∷ ws) xs ys h = go (placed p f (argument w)) refl (λ x. arguments-fit fs ws (xs ++ (x ∷ []))) ys h
+    arguments-fit (f ∷ fs) (w ∷ ws) xs ys h = go (checkedArgument p f (argument w)) refl (λ x. arguments-fit fs ws (xs ++ (x ∷ []))) ys h
       where
         next : ℕ → Checked (List ℕ)
         next x = argumentsFrom p (xs ++ (x ∷ [])) fs ws
 
-        go : (o : Checked ℕ) → placed p f (argument w) ≡ o → ((x : ℕ) → Reads fs (xs ++ (x ∷ [])) (next x)) →
+        go : (o : Checked ℕ) → checkedArgument p f (argument w) ≡ o → ((x : ℕ) → Reads fs (xs ++ (x ∷ [])) (next x)) →
             Reads (f ∷ fs) xs (elim o [ fine x ↦ next x | fault k ↦ fault k ])
         go (fine x) e ih ys h =
             let r = ih x ys h in
             record {
               behind = x ∷ r .behind;
               whole = r .whole ∙ append-assoc xs (x ∷ []) (r .behind);
-              fit = and-both (placed-fits p limits f w x e) (r .fit);
+              fit = and-both (checked-fits p limits f w x e) (r .fit);
             }
         go (fault k) e ih ys h = let z : _≡_ {A = ℕ} 0 1 = cc in absurd (omega arith)
 
@@ -179,7 +179,7 @@ module _ (p : Parameters) where
     -- What a line is accepted as fits.
     pub line-fits : (ws : List (List ℕ)) (c : Cell) → lineCell p ws ≡ fine c → cellFits p c ≡ true
     unfolding lineCell
-    line-fits [] c h = let q : cellWith 44 [] ≡ c = cc in rw q at nop-fits
+    line-fits [] c h = let q : cellWith nopNumber [] ≡ c = cc in rw q at nop-fits
     line-fits (w ∷ ws) c h = go (eqb (lookup w) 0) (eqb (length ws) (length forms)) refl h
       where
         forms : List ℕ

@@ -16,14 +16,14 @@ use Rattle.model.specs.declared.Parameters.{Parameters}
 use Rattle.model.specs.Parameters.{limit, maxCells, inRange}
 use Rattle.model.specs.Numbers.{bytes, upper, mapped, natural, number}
 use Rattle.model.specs.Words.{Argument, register, special, direct, literal, argumentWord, registerKind, directKind, numberKind, iarNumber, ircrNumber, shrNumber, wordOf, numberBits}
-use Rattle.model.specs.Load.{sameWord, specialOf, afterD, plain, argument, fine, fault, allows, isWithin, placed}
+use Rattle.model.specs.Load.{sameWord, specialOf, afterD, plain, argument, fine, fault, allows, isWithin, checkedArgument}
 use Rattle.bounds.proofs.Integers.{sub-ge}
 use Rattle.numbers.specs.declared.reading.Reading.{Reading}
 use Rattle.numbers.specs.declared.reading.Reading.the-variants.{NotANumber, Number, Outside}
 use Rattle.numbers.specs.Reading.{capped, readingOf}
 use Rattle.loader.specs.declared.arguments.WordOrFault.{WordOrFault}
 use Rattle.loader.specs.declared.arguments.WordOrFault.the-variants.{Word, Fault}
-use Rattle.loader.specs.Places.{wordOrFaultOf, indexedOf}
+use Rattle.loader.specs.Faults.{wordOrFaultOf, indexedOf}
 
 -- THE FIRST LETTERS
 pub special-choice : (w : List ℕ) →
@@ -101,18 +101,18 @@ module _ (w : List ℕ) (inside : 1 < length w) where
 -- THE WORD AT A PLACE
 -- A form that is not allowed, whatever it says.
 barred : {A : Type 0} (p : Parameters) (form : ℕ) (make : A → Argument) → ((a : A) → allows form (make a) ≡ false) → (o : Option A) →
-    placed p form (mapped make o) ≡ fault 13
+    checkedArgument p form (mapped make o) ≡ fault 13
 barred p form make h none = refl
 barred p form make h (some a) = simp (h a)
 
 -- A register or a cell: what is lost above the cap is no index below the count.
 module _ (p : Parameters) (form kind count : ℕ) (make : ℕ → Argument) (few : count ≤ maxCells) where
-  index-placed : ((v : ℕ) → allows form (make v) ≡ true) → ((v : ℕ) → isWithin p (make v) ≡ ltb v count) →
-      ((v : ℕ) → argumentWord (make v) ≡ wordOf kind v) → (o : Option ℕ) → indexedOf kind count (capped o) ≡ wordOrFaultOf (placed p form (mapped make o))
-  index-placed a i e none = refl
-  index-placed a i e (some v) = go (decLt v count)
+  index-checked : ((v : ℕ) → allows form (make v) ≡ true) → ((v : ℕ) → isWithin p (make v) ≡ ltb v count) →
+      ((v : ℕ) → argumentWord (make v) ≡ wordOf kind v) → (o : Option ℕ) → indexedOf kind count (capped o) ≡ wordOrFaultOf (checkedArgument p form (mapped make o))
+  index-checked a i e none = refl
+  index-checked a i e (some v) = go (decLt v count)
     where
-      go : Dec (v < count) → indexedOf kind count (capped (some v)) ≡ wordOrFaultOf (placed p form (some (make v)))
+      go : Dec (v < count) → indexedOf kind count (capped (some v)) ≡ wordOrFaultOf (checkedArgument p form (some (make v)))
       go (yes l) = let q : min (2 ^ 30) v ≡ v = omega arith in simp (q, a v, i v, lt-ltb v count l, e v)
       go (no g) =
           let h : count ≤ min (2 ^ 30) v = omega arith in
@@ -126,48 +126,48 @@ numbered (Number z) = Word (wordOf numberKind (numberBits z))
 numbered Outside = Fault 14
 
 module _ (p : Parameters) (form : ℕ) where
-  pub register-barred : ¬ (form % 2 ≡ 1) → (o : Option ℕ) → placed p form (mapped register o) ≡ fault 13
+  pub register-barred : ¬ (form % 2 ≡ 1) → (o : Option ℕ) → checkedArgument p form (mapped register o) ≡ fault 13
   unfolding allows
   register-barred h o = barred p form register (λ v. ne-eqb _ _ h) o
 
-  pub register-placed : form % 2 ≡ 1 → p .n ≤ maxCells → (o : Option ℕ) →
-      indexedOf registerKind (p .n) (capped o) ≡ wordOrFaultOf (placed p form (mapped register o))
+  pub register-checked : form % 2 ≡ 1 → p .n ≤ maxCells → (o : Option ℕ) →
+      indexedOf registerKind (p .n) (capped o) ≡ wordOrFaultOf (checkedArgument p form (mapped register o))
   unfolding allows isWithin
-  register-placed h l o = index-placed p form registerKind (p .n) register l (λ v. eq-eqb _ _ h) (λ v. refl) (λ v. refl) o
+  register-checked h l o = index-checked p form registerKind (p .n) register l (λ v. eq-eqb _ _ h) (λ v. refl) (λ v. refl) o
 
-  pub direct-barred : ¬ (form / 4 % 2 ≡ 1) → (o : Option ℕ) → placed p form (mapped direct o) ≡ fault 13
+  pub direct-barred : ¬ (form / 4 % 2 ≡ 1) → (o : Option ℕ) → checkedArgument p form (mapped direct o) ≡ fault 13
   unfolding allows
   direct-barred h o = barred p form direct (λ v. ne-eqb _ _ h) o
 
-  pub direct-placed : form / 4 % 2 ≡ 1 → p .b ≤ maxCells → (o : Option ℕ) →
-      indexedOf directKind (p .b) (capped o) ≡ wordOrFaultOf (placed p form (mapped direct o))
+  pub direct-checked : form / 4 % 2 ≡ 1 → p .b ≤ maxCells → (o : Option ℕ) →
+      indexedOf directKind (p .b) (capped o) ≡ wordOrFaultOf (checkedArgument p form (mapped direct o))
   unfolding allows isWithin
-  direct-placed h l o = index-placed p form directKind (p .b) direct l (λ v. eq-eqb _ _ h) (λ v. refl) (λ v. refl) o
+  direct-checked h l o = index-checked p form directKind (p .b) direct l (λ v. eq-eqb _ _ h) (λ v. refl) (λ v. refl) o
 
-  pub special-barred : ¬ (form / 2 % 2 ≡ 1) → (r : ℕ) → placed p form (some (special r)) ≡ fault 13
+  pub special-barred : ¬ (form / 2 % 2 ≡ 1) → (r : ℕ) → checkedArgument p form (some (special r)) ≡ fault 13
   unfolding allows
   special-barred h r = simp (ne-eqb _ _ h)
 
-  pub special-placed : form / 2 % 2 ≡ 1 → (r : ℕ) → placed p form (some (special r)) ≡ fine (wordOf registerKind r)
+  pub special-checked : form / 2 % 2 ≡ 1 → (r : ℕ) → checkedArgument p form (some (special r)) ≡ fine (wordOf registerKind r)
   unfolding allows isWithin
-  special-placed h r = simp h
+  special-checked h r = simp h
 
-  pub number-barred : ¬ (form / 8 % 2 ≡ 1) → (o : Option ℤ) → placed p form (mapped literal o) ≡ fault 13
+  pub number-barred : ¬ (form / 8 % 2 ≡ 1) → (o : Option ℤ) → checkedArgument p form (mapped literal o) ≡ fault 13
   unfolding allows
   number-barred h o = barred p form literal (λ v. ne-eqb _ _ h) o
 
-  number-placed : form / 8 % 2 ≡ 1 → (o : Option ℤ) → numbered (readingOf (limit (p .k)) o) ≡ wordOrFaultOf (placed p form (mapped literal o))
+  number-checked : form / 8 % 2 ≡ 1 → (o : Option ℤ) → numbered (readingOf (limit (p .k)) o) ≡ wordOrFaultOf (checkedArgument p form (mapped literal o))
   unfolding allows isWithin
-  number-placed h none = refl
-  number-placed h (some z) = simp h (go (inRange (limit (p .k)) z))
+  number-checked h none = refl
+  number-checked h (some z) = simp h (go (inRange (limit (p .k)) z))
     where
       go : (b : Bool) → numbered (cond b (Number z) Outside) ≡ wordOrFaultOf (cond b (fine (wordOf numberKind (numberBits z))) (fault 14))
       go true = refl
       go false = refl
 
   pub number-read : form / 8 % 2 ≡ 1 → {m : ℕ} → m ≡ limit (p .k) → (o : Option ℤ) {r : Reading} → r ≡ readingOf m o →
-      numbered r ≡ wordOrFaultOf (placed p form (mapped literal o))
-  number-read h e o q = ap numbered q ∙ ap (λ (m : ℕ). numbered (readingOf m o)) e ∙ number-placed h o
+      numbered r ≡ wordOrFaultOf (checkedArgument p form (mapped literal o))
+  number-read h e o q = ap numbered q ∙ ap (λ (m : ℕ). numbered (readingOf m o)) e ∙ number-checked h o
 
 -- The word of a number, as the code works it out.
 pub word-negative : (z : ℤ) → ltZ z (pos 0) ≡ true → mag z < 2 ^ 29 → pos (2 ^ 32) +ℤ z ≡ pos (wordOf numberKind (numberBits z))

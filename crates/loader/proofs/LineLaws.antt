@@ -11,8 +11,8 @@ use borrow.Author.Tests.{ne-eqb, lt-ltb, le-ltb, leb-true}
 use Rattle.model.specs.declared.Parameters.{Parameters}
 use Rattle.model.specs.Parameters.{between}
 use Rattle.model.specs.Words.{Cell, cellWith}
-use Rattle.model.specs.Instructions.{rowOf}
-use Rattle.model.specs.Load.{Checked, fine, fault, argument, placed, argumentsFrom, headed, words, lookup, lineCell}
+use Rattle.model.specs.Instructions.{nopNumber, rowOf}
+use Rattle.model.specs.Load.{Checked, fine, fault, argument, checkedArgument, argumentsFrom, headed, words, lookup, lineCell}
 use Rattle.model.proofs.Fits.{both, is-between}
 use Rattle.image.specs.Forms.{packed}
 use Rattle.image.proofs.FitLaws.{arePacked, rows-packable}
@@ -20,7 +20,7 @@ use Rattle.text.specs.Parts.{part}
 use Rattle.text.specs.Words.{NextWord}
 use Rattle.text.proofs.Walks.{first-word}
 use Rattle.loader.specs.declared.arguments.WordOrFault.the-variants.{Word, Fault}
-use Rattle.loader.specs.Places.{wordOrFaultOf}
+use Rattle.loader.specs.Faults.{wordOrFaultOf}
 use Rattle.loader.specs.Lines.{formCount, counted}
 
 -- PACKED FORMS
@@ -74,25 +74,25 @@ module _ (p : Parameters) (n : ℕ) (xs : List ℕ) where
     same-count : eqb (suc (length ws)) (suc (length fs)) ≡ eqb (length ws) (length fs)
     same-count = ap isEq (compare·suc-suc (length ws) (length fs))
 
-    arguments-word : (x : ℕ) → placed p f (argument w) ≡ fine x → argumentsFrom p xs (f ∷ fs) (w ∷ ws) ≡ argumentsFrom p (xs ++ (x ∷ [])) fs ws
+    arguments-word : (x : ℕ) → checkedArgument p f (argument w) ≡ fine x → argumentsFrom p xs (f ∷ fs) (w ∷ ws) ≡ argumentsFrom p (xs ++ (x ∷ [])) fs ws
     unfolding argumentsFrom
     arguments-word x e = simp (argumentsFrom, e)
 
-    arguments-fault : (k : ℕ) → placed p f (argument w) ≡ fault k → argumentsFrom p xs (f ∷ fs) (w ∷ ws) ≡ fault k
+    arguments-fault : (k : ℕ) → checkedArgument p f (argument w) ≡ fault k → argumentsFrom p xs (f ∷ fs) (w ∷ ws) ≡ fault k
     unfolding argumentsFrom
     arguments-fault k e = simp (argumentsFrom, e)
 
-    counted-word : (x : ℕ) → placed p f (argument w) ≡ fine x → counted p n xs (f ∷ fs) (w ∷ ws) ≡ counted p n (xs ++ (x ∷ [])) fs ws
+    counted-word : (x : ℕ) → checkedArgument p f (argument w) ≡ fine x → counted p n xs (f ∷ fs) (w ∷ ws) ≡ counted p n (xs ++ (x ∷ [])) fs ws
     unfolding counted
     counted-word x e = rw (same-count, arguments-word x e) refl
 
-    counted-fault : (k : ℕ) → placed p f (argument w) ≡ fault k →
+    counted-fault : (k : ℕ) → checkedArgument p f (argument w) ≡ fault k →
         counted p n xs (f ∷ fs) (w ∷ ws) ≡ cond (eqb (length ws) (length fs)) (fault k) (fault 12)
     unfolding counted
     counted-fault k e = rw (same-count, arguments-fault k e) refl
 
 -- THE LINE
-pub line-empty : (p : Parameters) → lineCell p [] ≡ fine (cellWith 44 [])
+pub line-empty : (p : Parameters) → lineCell p [] ≡ fine (cellWith nopNumber [])
 unfolding lineCell
 line-empty p = refl
 
@@ -114,13 +114,13 @@ line-known p w ws h = simp (lineCell, ne-eqb _ _ h) (go (eqb (length ws) (length
 
 -- THE LOOP
 -- A word or a fault that was found is that of the definition.
-placed-word : (o : Checked ℕ) (x : ℕ) → wordOrFaultOf o ≡ Word x → o ≡ fine x
-placed-word (fine y) x e = cc
-placed-word (fault k) x e = let z : _≡_ {A = ℕ} 0 1 = cc in absurd (omega arith)
+checked-word : (o : Checked ℕ) (x : ℕ) → wordOrFaultOf o ≡ Word x → o ≡ fine x
+checked-word (fine y) x e = cc
+checked-word (fault k) x e = let z : _≡_ {A = ℕ} 0 1 = cc in absurd (omega arith)
 
-placed-fault : (o : Checked ℕ) (k : ℕ) → wordOrFaultOf o ≡ Fault k → o ≡ fault k
-placed-fault (fine y) k e = let z : _≡_ {A = ℕ} 0 1 = cc in absurd (omega arith)
-placed-fault (fault j) k e = cc
+checked-fault : (o : Checked ℕ) (k : ℕ) → wordOrFaultOf o ≡ Fault k → o ≡ fault k
+checked-fault (fine y) k e = let z : _≡_ {A = ℕ} 0 1 = cc in absurd (omega arith)
+checked-fault (fault j) k e = cc
 
 -- Zeros behind a list are what is read there anyway.
 getD-zeros : (xs : List ℕ) (k j : ℕ) → getD (xs ++ replicate k 0) j 0 ≡ getD xs j 0
@@ -131,7 +131,7 @@ getD-zeros (x ∷ xs) k zero = refl
 getD-zeros (x ∷ xs) k (suc j) = getD-zeros xs k j
 
 -- The line's cell is that of the arguments `done`, which stand in their places, and of the words from `at` on at the forms that are left.
-pub record Standing (p : Parameters) (n : ℕ) (l : List ℕ) (from : ℕ) (slots : List ℕ) (at rest i : ℕ) : Type 0 where
+pub record ArgumentsInvariant (p : Parameters) (n : ℕ) (l : List ℕ) (from : ℕ) (slots : List ℕ) (at rest i : ℕ) : Type 0 where
   pub done : List ℕ
   pub forms : List ℕ
   pub are : arePacked forms ≡ true
@@ -139,11 +139,11 @@ pub record Standing (p : Parameters) (n : ℕ) (l : List ℕ) (from : ℕ) (slot
   pub packs : rest ≡ packed forms
   pub inside : at ≤ length l
   pub count : length done ≡ i
-  pub placed : slots ≡ done ++ replicate (3 - i) 0
+  pub stored : slots ≡ done ++ replicate (3 - i) 0
   pub same : counted p n [] (rowOf n .forms) (words (drop from l)) ≡ counted p n done forms (words (drop at l))
 
 module _ (p : Parameters) (n : ℕ) (l : List ℕ) (from : ℕ) where
-  pub at-start : (rest : ℕ) → rest ≡ packed (rowOf n .forms) → from ≤ length l → Standing p n l from (replicate 3 0) from rest 0
+  pub at-start : (rest : ℕ) → rest ≡ packed (rowOf n .forms) → from ≤ length l → ArgumentsInvariant p n l from (replicate 3 0) from rest 0
   at-start rest e h =
       let k = both (leb (length (rowOf n .forms)) 3) (arePacked (rowOf n .forms)) (rows-packable n) in
       record {
@@ -154,11 +154,11 @@ module _ (p : Parameters) (n : ℕ) (l : List ℕ) (from : ℕ) where
         packs = e;
         inside = h;
         count = refl;
-        placed = refl;
+        stored = refl;
         same = refl;
       }
 
-  module _ {slots : List ℕ} {at rest i : ℕ} (s : Standing p n l from slots at rest i) where
+  module _ {slots : List ℕ} {at rest i : ℕ} (s : ArgumentsInvariant p n l from slots at rest i) where
     -- Where forms are left, there is a first one.
     record Left : Type 0 where
       first : ℕ
@@ -212,7 +212,7 @@ module _ (p : Parameters) (n : ℕ) (l : List ℕ) (from : ℕ) where
         none (w ∷ ws) k = absurd (omega arith)
 
         slot : (j : ℕ) → getD slots j 0 ≡ getD (s .done) j 0
-        slot j = ap (λ (xs : List ℕ). getD xs j 0) (s .placed) ∙ getD-zeros (s .done) (3 - i) j
+        slot j = ap (λ (xs : List ℕ). getD xs j 0) (s .stored) ∙ getD-zeros (s .done) (3 - i) j
 
     module _ {a b : ℕ} (h : ¬ (rest ≡ 0)) (w : NextWord l at a b) (d : ¬ (a ≡ b)) where
       -- The first form and the rest of them.
@@ -236,16 +236,16 @@ module _ (p : Parameters) (n : ℕ) (l : List ℕ) (from : ℕ) where
       few-others : i + 1 + length (left h .others) ≤ 3
       few-others = omega (arith, s .few, ap length (left h .is))
 
-      pub at-fault : (k : ℕ) → wordOrFaultOf (placed p (rest % 16) (argument (part a b l))) ≡ Fault k →
+      pub at-fault : (k : ℕ) → wordOrFaultOf (checkedArgument p (rest % 16) (argument (part a b l))) ≡ Fault k →
           counted p n [] (rowOf n .forms) (words (drop from l)) ≡ cond (eqb (length (words (drop b l))) (formCount (rest / 16))) (fault k) (fault 12)
       at-fault k e =
           let others = left h .others in
           let q : formCount (rest / 16) ≡ length others = ap formCount (split .2) ∙ count-forms others (split .0) (omega (arith, few-others)) in
           step
-          ∙ counted-fault p n (s .done) (rest % 16) others (part a b l) (words (drop b l)) k (placed-fault _ k e)
+          ∙ counted-fault p n (s .done) (rest % 16) others (part a b l) (words (drop b l)) k (checked-fault _ k e)
           ∙ ap (λ (m : ℕ). cond (eqb (length (words (drop b l))) m) (fault k) (fault 12)) (sym q)
 
-      pub at-word : (x : ℕ) → wordOrFaultOf (placed p (rest % 16) (argument (part a b l))) ≡ Word x → Standing p n l from (set slots i x) b (rest / 16) (i + 1)
+      pub at-word : (x : ℕ) → wordOrFaultOf (checkedArgument p (rest % 16) (argument (part a b l))) ≡ Word x → ArgumentsInvariant p n l from (set slots i x) b (rest / 16) (i + 1)
       at-word x e =
           let others = left h .others in
           record {
@@ -256,11 +256,11 @@ module _ (p : Parameters) (n : ℕ) (l : List ℕ) (from : ℕ) where
             packs = split .2;
             inside = w .high;
             count = length-append (s .done) (x ∷ []) ∙ ap (λ (k : ℕ). k + 1) (s .count);
-            placed =
-                ap (λ (xs : List ℕ). set xs i x) (s .placed ∙ ap (λ (k : ℕ). s .done ++ replicate k 0) more)
+            stored =
+                ap (λ (xs : List ℕ). set xs i x) (s .stored ∙ ap (λ (k : ℕ). s .done ++ replicate k 0) more)
                 ∙ set-at (s .done) 0 (replicate (3 - (i + 1)) 0) x i (s .count)
                 ∙ sym (append-snoc (s .done) x (replicate (3 - (i + 1)) 0));
-            same = step ∙ counted-word p n (s .done) (rest % 16) others (part a b l) (words (drop b l)) x (placed-word _ x e);
+            same = step ∙ counted-word p n (s .done) (rest % 16) others (part a b l) (words (drop b l)) x (checked-word _ x e);
           }
         where
           more : 3 - i ≡ suc (3 - (i + 1))

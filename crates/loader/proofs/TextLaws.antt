@@ -84,7 +84,7 @@ held-first false p image h = refl
 
 -- THE LOOP
 -- Line i is next and the text goes on at `at`: the lines before it are right, and `done` are their words.
-pub record Standing (write : Bool) (p : Parameters) (text old image : List ℕ) (at i : ℕ) : Type 0 where
+pub record LinesInvariant (write : Bool) (p : Parameters) (text old image : List ℕ) (at i : ℕ) : Type 0 where
   pub done : List ℕ
   pub inside : at ≤ length text
   pub few : i ≤ p .t
@@ -95,7 +95,7 @@ pub record Standing (write : Bool) (p : Parameters) (text old image : List ℕ) 
   pub count : length (lines text) ≡ i + length (lines (drop at text))
 
 module _ (write : Bool) (p : Parameters) (text old : List ℕ) where
-  pub at-start : Ready write p old → Standing write p text old old 0 0
+  pub at-start : Ready write p old → LinesInvariant write p text old old 0 0
   unfolding textReply
   at-start h =
       record {
@@ -109,7 +109,7 @@ module _ (write : Bool) (p : Parameters) (text old : List ℕ) where
         count = sym (zero-add (length (lines text)));
       }
 
-  module _ {image : List ℕ} {at i : ℕ} (s : Standing write p text old image at i) where
+  module _ {image : List ℕ} {at i : ℕ} (s : LinesInvariant write p text old image at i) where
     -- A pass that ends at a fault has kept the image, unless it writes.
     pub held-refused : (k j : ℕ) → Filled write p text old image (Refused k j)
     held-refused k j = go write (s .held)
@@ -155,7 +155,7 @@ module _ (write : Bool) (p : Parameters) (text old : List ℕ) where
         abbrev ws : List ℕ
         ws = h ∷ a ∷ b ∷ c ∷ []
 
-        at-cell : {new : List ℕ} → Held write p old new (s .done ++ ws) (i + 1) → Standing write p text old new next (i + 1)
+        at-cell : {new : List ℕ} → Held write p old new (s .done ++ ws) (i + 1) → LinesInvariant write p text old new next (i + 1)
         unfolding linesWords
         at-cell held =
             let ls = lines (drop next text) in
@@ -175,7 +175,7 @@ module _ (write : Bool) (p : Parameters) (text old : List ℕ) where
               count = s .count ∙ omega (arith, ap length (n .same));
             }
 
-        pub cell-written : write ≡ true → Standing write p text old (sets image (4 * i) ws) next (i + 1)
+        pub cell-written : write ≡ true → LinesInvariant write p text old (sets image (4 * i) ws) next (i + 1)
         cell-written q = at-cell (go write q (s .held))
           where
             z : 4 * p .t - 4 * i ≡ length ws + (4 * p .t - 4 * (i + 1))
@@ -187,7 +187,7 @@ module _ (write : Bool) (p : Parameters) (text old : List ℕ) where
                 ∙ sets-zeros ws (s .done) (4 * p .t - 4 * (i + 1)) (4 * i) (s .size)
             go false q h = absurd (true≢false (sym q))
 
-        pub cell-passed : write ≡ false → Standing write p text old image next (i + 1)
+        pub cell-passed : write ≡ false → LinesInvariant write p text old image next (i + 1)
         cell-passed q = at-cell (go write q (s .held))
           where
             go : (w : Bool) → w ≡ false → Held w p old image (s .done) i → Held w p old image (s .done ++ ws) (i + 1)

@@ -1,4 +1,4 @@
 pub mod Keys
-pub mod Places
+pub mod Faults
 pub mod Lines
 pub mod Passes

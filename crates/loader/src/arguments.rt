@@ -6,8 +6,8 @@ ghost use lib.Signed.{mag};
 ghost use Rattle.model.specs.Parameters.{limit, maxCells, Fit};
 ghost use Rattle.model.specs.Numbers.{mapped, natural, number};
 ghost use Rattle.model.specs.Words.{directKind, numberKind, wordOf, numberBits, register, literal};
-ghost use Rattle.model.specs.Load.{specialOf, afterD, argument, placed};
-ghost use Rattle.loader.specs.Places.{indexedOf, wordOrFaultOf};
+ghost use Rattle.model.specs.Load.{specialOf, afterD, argument, checkedArgument};
+ghost use Rattle.loader.specs.Faults.{indexedOf, wordOrFaultOf};
 use crate::names::same_word;
 use model::Parameters;
 use model::words::DIRECT;
@@ -69,7 +69,7 @@ fn indexed(kind: u32, count: u32, d: Digits) -> WordOrFault
 // R with digits.
 fn register_word(w: &[u8], form: u32, p: Parameters) -> WordOrFault
     requires { ⌜ Fit p ⌝ }
-    ensures { λ r. ⌜ r ≡ wordOrFaultOf (placed p form (mapped register (natural (drop 1 (now (w .entry)))))) ⌝ }
+    ensures { λ r. ⌜ r ≡ wordOrFaultOf (checkedArgument p form (mapped register (natural (drop 1 (now (w .entry)))))) ⌝ }
 {
     if form % 2 == 1 {
         return indexed(REGISTER, p.n, read_digits(w, 1));
@@ -80,7 +80,7 @@ fn register_word(w: &[u8], form: u32, p: Parameters) -> WordOrFault
 // DM with digits, of which the D is known.
 fn direct_word(w: &[u8], form: u32, p: Parameters) -> WordOrFault
     requires { ⌜ Fit p ⌝ }
-    ensures { λ r. ⌜ r ≡ wordOrFaultOf (placed p form (afterD (drop 1 (now (w .entry))))) ⌝ }
+    ensures { λ r. ⌜ r ≡ wordOrFaultOf (checkedArgument p form (afterD (drop 1 (now (w .entry))))) ⌝ }
 {
     if w.len() < 2 {
         return WordOrFault::Fault(13);
@@ -108,7 +108,7 @@ fn literal_word(z: i32) -> u32
 // A number.
 fn number_word(w: &[u8], form: u32, p: Parameters, m: u32) -> WordOrFault
     requires { ⌜ Fit p × (m ≡ limit (p .k)) ⌝ }
-    ensures { λ r. ⌜ r ≡ wordOrFaultOf (placed p form (mapped literal (number (now (w .entry))))) ⌝ }
+    ensures { λ r. ⌜ r ≡ wordOrFaultOf (checkedArgument p form (mapped literal (number (now (w .entry))))) ⌝ }
 {
     if form / 8 % 2 != 1 {
         return WordOrFault::Fault(13);
@@ -124,7 +124,7 @@ fn number_word(w: &[u8], form: u32, p: Parameters, m: u32) -> WordOrFault
 // The argument at a place of this form.
 pub fn argument_word(w: &[u8], form: u32, p: Parameters, m: u32) -> WordOrFault
     requires { ⌜ Fit p × (m ≡ limit (p .k)) ⌝ }
-    ensures { λ r. ⌜ r ≡ wordOrFaultOf (placed p form (argument (now (w .entry)))) ⌝ }
+    ensures { λ r. ⌜ r ≡ wordOrFaultOf (checkedArgument p form (argument (now (w .entry)))) ⌝ }
 {
     if w.len() == 0 {
         return WordOrFault::Fault(13);

@@ -14,6 +14,7 @@ ghost use Rattle.loader.specs.Lines.{formCount, parsedOf, counted};
 use crate::arguments::WordOrFault;
 use crate::arguments::argument_word;
 use crate::names::find_name;
+use image::forms::NOP;
 use image::forms::forms_of;
 use model::Parameters;
 use text::words::next_word;
@@ -87,8 +88,8 @@ fn parse_arguments(l: &[u8], from: usize, number: u32, forms: u32, p: Parameters
         }
         let form = rest % 16;
         rest = rest / 16;
-        let placed = argument_word(&l[start..end], form, p, m);
-        match placed {
+        let answer = argument_word(&l[start..end], form, p, m);
+        match answer {
             WordOrFault::Fault(k) => {
                 return fault_unless_miscounted(l, end, rest, k);
             }
@@ -122,7 +123,7 @@ pub fn parse_line(
     let start = w.start;
     let end = w.end;
     if start == end {
-        return Parsed::Words(44, 0, 0, 0);
+        return Parsed::Words(NOP, 0, 0, 0);
     }
     let number = find_name(&l[start..end], keys, slots);
     if number == 0 {

@@ -49,15 +49,15 @@ module _ (lent : Environment) (held : Held) (c : Call) where
   account = accountOf held
 
   -- The word of what a grant hands back.
-  abbrev wordOf : Granted → List ℕ
-  wordOf x = cond (eqb (grantRefusal e account c) 0) (stopWord e (accountOf (heldAfter x)) (length (c .slice) - x .reply .values)) []
+  abbrev wordGiven : Granted → List ℕ
+  wordGiven x = cond (eqb (grantRefusal e account c) 0) (stopWord e (accountOf (heldAfter x)) (length (c .slice) - x .reply .values)) []
 
   pub promised : {x : Granted} → x ≡ granted lent held c → GrantIs lent held c x
   promised q =
       record {
         given = q;
         number = ap (λ (g : Granted). outcomeNumber (g .reply .outcome)) q ∙ grant-number lent held c;
-        word = ap (λ (g : Granted). outcomeWord (g .reply .outcome)) q ∙ grant-word lent held c ∙ ap wordOf (sym q);
+        word = ap (λ (g : Granted). outcomeWord (g .reply .outcome)) q ∙ grant-word lent held c ∙ ap wordGiven (sym q);
       }
 
   pub grant-refuses : (k : ℕ) → k ≡ grantRefusal e account c → ¬ (k ≡ 0) →

@@ -11,7 +11,7 @@ use lib.IntN.{ℤ, pos, negsuc, negℤ}
 use lib.ListN.{length}
 use lib.Signed.{mag}
 use borrow.Author.Tests.{lt-ltb, le-ltb, le-leb, ne-eqb}
-use Rattle.model.specs.Numbers.{isDigit, digitsFrom, natural, mapped, number, digitsOf, decimal}
+use Rattle.model.specs.Numbers.{isDigit, digitsFrom, natural, mapped, number, digitsOf, decimal, longestDecimal}
 use Rattle.model.proofs.Fits.{and-both, is-between}
 
 -- 0 to 9 alone.
@@ -112,8 +112,8 @@ digits-at-least = by-digits AtLeast last more
 pub digit-count : (k n : ℕ) → 10 ^ k ≤ max 1 n → n < 10 ^ suc k → length (digitsOf (suc n) n []) ≡ suc k
 digit-count k n l h = omega (arith, digits-at-least (suc n) n (omega arith) k [] l, digits-at-most (suc n) n (omega arith) k [] h)
 
--- A number of 32 bits has at most 11 bytes.
-pub decimal-length : (z : ℤ) → mag z < 2 ^ 31 → length (decimal z) ≤ 11
+-- No number of 32 bits has more bytes.
+pub decimal-length : (z : ℤ) → mag z < 2 ^ 31 → length (decimal z) ≤ longestDecimal
 decimal-length (pos n) h = omega (arith, digits-at-most (suc n) n (omega arith) 9 [] (omega arith))
 decimal-length (negsuc n) h = omega (arith, digits-at-most (suc (suc n)) (suc n) (omega arith) 9 [] (omega arith))
 

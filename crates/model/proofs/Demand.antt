@@ -93,7 +93,7 @@ module _ (e : Environment) where
           m = d .m;
           is-after = rw held (to-after (d .m) _ _ _ outs-is (d .stands));
           only = λ n s. d .only n (to-stands n _ _ _ outs-is (rw held at s));
-          replies = rw replied-is (d .works);
+          replies = rw replied-is (d .trace);
           replies-only = λ rs n g w. d .replies-only rs n g w ∙ sym replied-is;
           largest = rw replied-is (d .largest);
           granted-sum = rw (held, replied-is) (d .granted);

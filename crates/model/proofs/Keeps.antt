@@ -12,7 +12,7 @@ use lib.ListN.{length, getD, set, drop, length-drop, length-set, length-replicat
 use lib.Signed.{mag, leZ, nonNeg}
 use borrow.Author.Tests.{eqb-true, eqb-false, ltb-true}
 use Rattle.model.specs.Parameters.{Fit, limit, inRange, eqZ, isBoolean, isTrue}
-use Rattle.model.specs.Words.{Cell, isEmpty, kindOf, contentOf, numberOf}
+use Rattle.model.specs.Words.{Cell, isEmpty, kindOf, registerKind, directKind, numberKind, contentOf, iarNumber, ircrNumber, shrNumber, numberOf}
 use Rattle.model.specs.Numbers.{isBlank, number}
 use Rattle.model.specs.Arithmetic.{Answer, value, code}
 use Rattle.model.specs.Instructions.{Operation, clearRegisters, clearCells, dumpRegisters, dumpCells, inputs, outputs, pushes, pops, skips, idles, writes, jumps, jumpsOn}
@@ -53,20 +53,20 @@ module _ (e : Environment) (l : Limits (e .parameters)) where
   register-mag : (s : State) → Sound e s → (r : ℕ) → mag (registerValue s r) < limitOf e
   unfolding registerValue
   register-mag s h r =
-      by-cond (λ z. mag z < limitOf e) (eqb r 256) (pos (s .iar)) _ (λ q. omega (arith, h .iar, l .t-value, one))
-      (λ q. by-cond (λ z. mag z < limitOf e) (eqb r 257) (pos (s .ircr)) _ (λ q. omega (arith, h .ircr, limit-low (l .k-low)))
-      (λ q. by-cond (λ z. mag z < limitOf e) (eqb r 258) (s .shr) (getD (s .registers) r (pos 0))
+      by-cond (λ z. mag z < limitOf e) (eqb r iarNumber) (pos (s .iar)) _ (λ q. omega (arith, h .iar, l .t-value, one))
+      (λ q. by-cond (λ z. mag z < limitOf e) (eqb r ircrNumber) (pos (s .ircr)) _ (λ q. omega (arith, h .ircr, limit-low (l .k-low)))
+      (λ q. by-cond (λ z. mag z < limitOf e) (eqb r shrNumber) (s .shr) (getD (s .registers) r (pos 0))
       (λ q. omega (arith, head-mag (e .parameters .b) (e .parameters .s) (s .shr) (h .low) (h .high), l .s-value, one))
       (λ q. getD-range (limitOf e) (s .registers) r one (h .registers))))
 
   pub value-mag : (s : State) → Sound e s → (w : ℕ) → Readable (e .parameters) w → mag (valueOf s w) < limitOf e
   unfolding valueOf
   value-mag s h w r =
-      by-cond (λ z. mag z < limitOf e) (eqb (kindOf w) 1) (registerValue s (contentOf w)) _ (λ q. register-mag s h (contentOf w))
-      (λ q. by-cond (λ z. mag z < limitOf e) (eqb (kindOf w) 2) (getD (s .cells) (contentOf w) (pos 0)) _
+      by-cond (λ z. mag z < limitOf e) (eqb (kindOf w) registerKind) (registerValue s (contentOf w)) _ (λ q. register-mag s h (contentOf w))
+      (λ q. by-cond (λ z. mag z < limitOf e) (eqb (kindOf w) directKind) (getD (s .cells) (contentOf w) (pos 0)) _
       (λ q. getD-range (limitOf e) (s .cells) (contentOf w) one (h .cells))
-      (λ q. by-cond (λ z. mag z < limitOf e) (eqb (kindOf w) 3) (numberOf (contentOf w)) (pos 0)
-      (λ q. range-mag (limitOf e) (numberOf (contentOf w)) one (r (eqb-true (kindOf w) 3 q)))
+      (λ q. by-cond (λ z. mag z < limitOf e) (eqb (kindOf w) numberKind) (numberOf (contentOf w)) (pos 0)
+      (λ q. range-mag (limitOf e) (numberOf (contentOf w)) one (r (eqb-true (kindOf w) numberKind q)))
       (λ q. one)))
 
 -- CHANGING one thing of a sound state. `search` takes all else from h.
@@ -155,8 +155,8 @@ module _ (e : Environment) (l : Limits (e .parameters)) (s : State) (g : Going e
   store-going : (w : ℕ) (v : ℤ) → mag v < limitOf e → Going e (store w v s)
   unfolding store
   store-going w v h =
-      by-cond (Going e) (eqb (kindOf w) 1) _ _ (λ q. record { sound = set-register l (g .sound) (contentOf w) v h; within = g .within })
-      (λ q. by-cond (Going e) (eqb (kindOf w) 2) _ _ (λ q. record { sound = set-cell l (g .sound) (contentOf w) v h; within = g .within }) (λ q. g))
+      by-cond (Going e) (eqb (kindOf w) registerKind) _ _ (λ q. record { sound = set-register l (g .sound) (contentOf w) v h; within = g .within })
+      (λ q. by-cond (Going e) (eqb (kindOf w) directKind) _ _ (λ q. record { sound = set-cell l (g .sound) (contentOf w) v h; within = g .within }) (λ q. g))
 
   next-preserves : Preserves e (next s)
   next-preserves = iar-sound (g .sound) (s .iar + 1) (omega arith)
@@ -213,8 +213,8 @@ module _ (e : Environment) (l : Limits (e .parameters)) (s : State) (g : Going e
   input-preserves w =
       let rest = drop (s .place) (e .input) in
       let token = tokenOf (drop (blanksOf rest) rest) in
-      let placed = place-sound (g .sound) _ (place-le (e .input) (s .place) (g .sound .place)) in
-      stores-preserves e l _ (record { sound = placed; within = g .within }) w (inputAnswer (limitOf e) token)
+      let moved = place-sound (g .sound) _ (place-le (e .input) (s .place) (g .sound .place)) in
+      stores-preserves e l _ (record { sound = moved; within = g .within }) w (inputAnswer (limitOf e) token)
       (input-good (limitOf e) (one e l) token)
 
   execute-preserves : (op : Operation) (c : Cell) → WritesRange (limitOf e) op → CellReadable (e .parameters) c → Preserves e (execute e op c s)

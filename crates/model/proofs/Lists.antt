@@ -67,7 +67,7 @@ module _ (M : Machine) where
       pub stands : Stands m (left calls) (joined (gave calls))
       pub only : (n : ℕ) → Stands n (left calls) (joined (gave calls)) → n ≡ m
       -- the replies are those that are worked out, and no others are
-      pub works : Trace M refusal 0 0 calls (replies (gave calls)) m (total calls (replies (gave calls)))
+      pub trace : Trace M refusal 0 0 calls (replies (gave calls)) m (total calls (replies (gave calls)))
       pub replies-only : (rs : List Reply) (n g : ℕ) → Trace M refusal 0 0 calls rs n g → rs ≡ replies (gave calls)
       -- the record's granted is that of the accepted grants together
       pub granted : (left calls) .granted ≡ total calls (replies (gave calls))
@@ -80,10 +80,10 @@ module _ (M : Machine) where
       g′ : ℕ
       reaches : Reaches M n
       fits : costs M n ≤ g′
-      heldAfterAll : fin ≡ accountAt M n g′
+      account : fin ≡ accountAt M n g′
       outs : outputs M n ≡ outputs M m ++ joined res
       sum : g′ ≡ g + total calls (replies res)
-      works : Trace M refusal m g calls (replies res) n g′
+      trace : Trace M refusal m g calls (replies res) n g′
       largest : ¬ (lastEnding e (replies res) ≡ some OutputFull) → Largest M n g′
 
     then-accepted : (m g : ℕ) (e : Option Ending) (c : Call) (cs : List Call) (fin : Account St) (x : Result St) (res : List (Result St)) →
@@ -95,10 +95,10 @@ module _ (M : Machine) where
           g′ = t .g′;
           reaches = t .reaches;
           fits = t .fits;
-          heldAfterAll = t .heldAfterAll;
+          account = t .account;
           outs = t .outs ∙ rw (a .values, append-assoc);
           sum = rw (a .reply) (omega arith);
-          works = rw (a .reply) (accepts h (a .runs) (t .works));
+          trace = rw (a .reply) (accepts h (a .runs) (t .trace));
           largest = rw (a .reply) (t .largest);
         }
 
@@ -119,7 +119,7 @@ module _ (M : Machine) where
         From m g e calls (final M refusal (accountAt M m g) calls) (results M refusal (accountAt M m g) calls)
     unfolding final results replies total joined lastEnding refuse
     from priced [] m g e r f l =
-        record { n = m; g′ = g; reaches = r; fits = f; heldAfterAll = refl; outs = sym (append-nil _); sum = omega arith; works = nothing; largest = l }
+        record { n = m; g′ = g; reaches = r; fits = f; account = refl; outs = sym (append-nil _); sum = omega arith; trace = nothing; largest = l }
     from priced (c ∷ cs) m g e r f l = go (refusal (accountAt M m g) c) refl (from priced cs)
       where
         go : (k : ℕ) → refusal (accountAt M m g) c ≡ k →
@@ -134,17 +134,17 @@ module _ (M : Machine) where
         go (suc k) h ih = rw (grant-refused (accountAt M m g) c k h) (then-refused m g k e c cs _ _ h (ih m g e r f l))
 
     -- What is worked out is one thing: the replies, the place and the cycles granted.
-    pub works-only : (calls : List Call) (m g : ℕ) (rs rs₂ : List Reply) (n g′ n₂ g₂ : ℕ) →
+    pub trace-only : (calls : List Call) (m g : ℕ) (rs rs₂ : List Reply) (n g′ n₂ g₂ : ℕ) →
         Trace M refusal m g calls rs n g′ → Trace M refusal m g calls rs₂ n₂ g₂ → (rs ≡ rs₂) × (n ≡ n₂) × (g′ ≡ g₂)
-    works-only [] m g _ _ _ _ _ _ nothing nothing = (refl, refl, refl)
-    works-only (c ∷ cs) m g _ _ _ _ _ _ (refuses h w) (refuses h₂ w₂) =
-        let (t, u, v) = works-only cs m g _ _ _ _ _ _ w w₂ in
+    trace-only [] m g _ _ _ _ _ _ nothing nothing = (refl, refl, refl)
+    trace-only (c ∷ cs) m g _ _ _ _ _ _ (refuses h w) (refuses h₂ w₂) =
+        let (t, u, v) = trace-only cs m g _ _ _ _ _ _ w w₂ in
         (cc, u, v)
-    works-only (c ∷ cs) m g _ _ _ _ _ _ (refuses h w) (accepts h₂ a₂ w₂) = (cc, cc, cc)
-    works-only (c ∷ cs) m g _ _ _ _ _ _ (accepts h a w) (refuses h₂ w₂) = (cc, cc, cc)
-    works-only (c ∷ cs) m g _ _ _ _ _ _ (accepts {l} {e} h a w) (accepts {l = l₂} {e = e₂} h₂ a₂ w₂) =
+    trace-only (c ∷ cs) m g _ _ _ _ _ _ (refuses h w) (accepts h₂ a₂ w₂) = (cc, cc, cc)
+    trace-only (c ∷ cs) m g _ _ _ _ _ _ (accepts h a w) (refuses h₂ w₂) = (cc, cc, cc)
+    trace-only (c ∷ cs) m g _ _ _ _ _ _ (accepts {l} {e} h a w) (accepts {l = l₂} {e = e₂} h₂ a₂ w₂) =
         let (p, q) = runs-only M _ _ m l l₂ e e₂ a a₂ in
-        let (t, u, v) = works-only cs l _ _ _ _ _ _ _ w (rw (← p) at w₂) in
+        let (t, u, v) = trace-only cs l _ _ _ _ _ _ _ w (rw (← p) at w₂) in
         (cc, u, v)
 
     conclude : Priced M → (calls : List Call) → From 0 0 none calls (left calls) (gave calls) → Demand3 calls
@@ -153,11 +153,11 @@ module _ (M : Machine) where
         let sum : t .g′ ≡ total calls (replies (gave calls)) = omega arith in
         record {
           m = t .n;
-          stands = record { reaches = t .reaches; state = rw (t .heldAfterAll); outs = sym (t .outs); count = rw (t .heldAfterAll) };
-          only = λ n s. costs-inj M priced n (t .n) (s .reaches) (t .reaches) (sym (s .count) ∙ rw (t .heldAfterAll));
-          works = rw sum at (t .works);
-          replies-only = λ rs n g w. works-only calls 0 0 _ _ _ _ _ _ w (t .works) .0;
-          granted = rw (t .heldAfterAll) sum;
+          stands = record { reaches = t .reaches; state = rw (t .account); outs = sym (t .outs); count = rw (t .account) };
+          only = λ n s. costs-inj M priced n (t .n) (s .reaches) (t .reaches) (sym (s .count) ∙ rw (t .account));
+          trace = rw sum at (t .trace);
+          replies-only = λ rs n g w. trace-only calls 0 0 _ _ _ _ _ _ w (t .trace) .0;
+          granted = rw (t .account) sum;
           largest = rw sum at (t .largest);
         }
 

@@ -38,7 +38,7 @@ use Rattle.model.specs.Load.{
   loadReply,
   lookup,
   numbersOfLoad,
-  placed,
+  checkedArgument,
   rightLines,
   textChecks,
   textReply,
@@ -53,9 +53,9 @@ Late (fine x) = Unit {0}
 Late (fault k) = 11 ≤ k
 
 module _ (p : Parameters) where
-  placed-late : (form : ℕ) (o : Option Argument) → Late (placed p form o)
-  placed-late form none = omega arith
-  placed-late form (some a) =
+  checked-late : (form : ℕ) (o : Option Argument) → Late (checkedArgument p form o)
+  checked-late form none = omega arith
+  checked-late form (some a) =
       by-cond (Late {A = ℕ}) (allows form a) (cond (isWithin p a) (fine (argumentWord a)) (fault 14)) (fault 13)
       (λ e. by-cond (Late {A = ℕ}) (isWithin p a) (fine (argumentWord a)) (fault 14) (λ q. tt) (λ q. omega arith))
       (λ e. omega arith)
@@ -64,7 +64,7 @@ module _ (p : Parameters) where
   unfolding argumentsFrom
   arguments-late xs [] ws = tt
   arguments-late xs (f ∷ fs) [] = omega arith
-  arguments-late xs (f ∷ fs) (w ∷ ws) = go (placed p f (argument w)) (placed-late f (argument w)) (λ x. arguments-late (xs ++ (x ∷ [])) fs ws)
+  arguments-late xs (f ∷ fs) (w ∷ ws) = go (checkedArgument p f (argument w)) (checked-late f (argument w)) (λ x. arguments-late (xs ++ (x ∷ [])) fs ws)
     where
       go : (o : Checked ℕ) → Late o → ((x : ℕ) → Late (argumentsFrom p (xs ++ (x ∷ [])) fs ws)) →
           Late {A = List ℕ} (elim o [ fine x ↦ argumentsFrom p (xs ++ (x ∷ [])) fs ws | fault k ↦ fault k ])

@@ -9,6 +9,7 @@ use Rattle.model.specs.declared.Parameters.{Parameters}
 use Rattle.model.specs.declared.LoadReply.the-variants as load
 use Rattle.model.specs.declared.Outcome.the-variants.{Refused}
 use Rattle.model.specs.Parameters.{refusalOf}
+use Rattle.model.specs.Numbers.{longestDecimal}
 use Rattle.model.specs.Load.{loadChecks, loadReply, imageAfter}
 use Rattle.model.specs.Grants.{Call, handBack, refuse, accept, grant}
 use Rattle.model.specs.Step.{Environment, Memory}
@@ -62,7 +63,7 @@ module _ (e : Environment) (held : Held) (c : Call) where
       go zero h = rw (h, grant)
       go (suc k) h = rw (h, grant)
 
-pub decimal-refused : (z : ℤ) (old : List ℕ) → length old < 11 →
+pub decimal-refused : (z : ℤ) (old : List ℕ) → length old < longestDecimal →
     spelled z old ≡ record { reply = record { refusal = 18; count = 0 }; bytes = old }
 unfolding spelled
-decimal-refused z old h = rw (lt-ltb (length old) 11 h)
+decimal-refused z old h = rw (lt-ltb (length old) longestDecimal h)

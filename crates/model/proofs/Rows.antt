@@ -1,17 +1,17 @@
 -- A rule of the table of instructions by one test that is computed over all rows, and the numbers at which names are found. Assumes nothing.
-use Prim.Native.Nat.{ℕ, zero, suc, _+_, _≤_, _<_}
+use Prim.Native.Nat.{ℕ, zero, suc, _+_, _-_, _≤_, _<_}
 use mathlib.Core.Path.{_≡_, refl, ap, _∙_}
 use mathlib.Core.Bool.{Bool, true, false, _&&_}
 use mathlib.Core.List.{List, [], _∷_}
 use mathlib.Core.Logic.{_⊎_, inl, inr}
 use native.Mathlib.Omega.{arith}
 use lib.ListN.{getD, length, List·getD-eq-default}
-use Rattle.model.specs.Instructions.{Row, rows, rowOf}
+use Rattle.model.specs.Instructions.{Row, rows, nopNumber, rowOf}
 use Rattle.model.specs.Load.{sameWord, lookupFrom, names, lookup}
 use Rattle.model.proofs.Fits.{both}
 
 -- The row of a number that is no instruction's is NOP's.
-pub none-is-nop : (n : ℕ) → (n ≡ 0) ⊎ (length rows < n) → rowOf n ≡ rowOf 44
+pub none-is-nop : (n : ℕ) → (n ≡ 0) ⊎ (length rows < n) → rowOf n ≡ rowOf nopNumber
 unfolding rowOf
 none-is-nop zero h = refl
 none-is-nop (suc n) (inl e) = absurd (omega arith)
@@ -32,8 +32,8 @@ pub row-rule : (f : Row → Bool) → allRows f rows ≡ true → (n : ℕ) → 
 unfolding rowOf
 row-rule f h n = go n
   where
-    nop : f (rowOf 44) ≡ true
-    nop = passes f rows 43 (rowOf 44) h (λ k. absurd (omega arith))
+    nop : f (rowOf nopNumber) ≡ true
+    nop = passes f rows (nopNumber - 1) (rowOf nopNumber) h (λ k. absurd (omega arith))
 
     go : (k : ℕ) → f (rowOf k) ≡ true
     go zero = ap f (none-is-nop 0 (inl refl)) ∙ nop

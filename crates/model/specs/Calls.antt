@@ -16,7 +16,7 @@ use Rattle.model.specs.declared.StartReply.{StartReply}
 use Rattle.model.specs.declared.GrantReply.{GrantReply}
 use Rattle.model.specs.declared.DecimalReply.{DecimalReply}
 use Rattle.model.specs.Parameters.{Check, _unless_, refusalOf, allPass, parameterChecks, limit, maxInput, maxGrant, maxGranted, inRange}
-use Rattle.model.specs.Numbers.{bytes, decimal}
+use Rattle.model.specs.Numbers.{bytes, decimal, longestDecimal}
 use Rattle.model.specs.Words.{isEmpty}
 use Rattle.model.specs.Load.{lengthCheck}
 use Rattle.model.specs.Images.{imageFits}
@@ -229,6 +229,6 @@ pub record Spelled : Type 0 where
 -- "Decimal writer: 18 fewer than 11 bytes lent. .. later bytes are untouched. With 18 the count is 0."
 unfoldable pub spelled : ℤ → (old : List ℕ) → Spelled
 spelled z old =
-    cond (ltb (length old) 11)
+    cond (ltb (length old) longestDecimal)
     (record { reply = record { refusal = 18; count = 0 }; bytes = old })
     (record { reply = record { refusal = 0; count = length (decimal z) }; bytes = decimal z ++ drop (length (decimal z)) old })

@@ -161,6 +161,10 @@ rows =
 abbrev pub instructionCount : ℕ
 instructionCount = length rows
 
+-- The number of NOP, which a line without words is.
+abbrev pub nopNumber : ℕ
+nopNumber = 44
+
 -- The row of an instruction's number. A head that is none, which no fit image has, gets NOP's.
 unfoldable pub rowOf : ℕ → Row
 rowOf zero = nop

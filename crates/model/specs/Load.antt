@@ -11,7 +11,7 @@ use Rattle.model.specs.declared.LoadReply.the-variants.{Accepted, Refuse
 use Rattle.model.specs.Parameters.{Check, _unless_, refusalOf, parameterChecks, limit, maxText, inRange}
 use Rattle.model.specs.Words.{Argument, register, special, direct, literal, argumentWord, iarNumber, ircrNumber, shrNumber, Cell, cellWith, cellWords}
 use Rattle.model.specs.Numbers.{bytes, among, upper, mapped, natural, number}
-use Rattle.model.specs.Instructions.{Row, rows, rowOf}
+use Rattle.model.specs.Instructions.{Row, rows, nopNumber, rowOf}
 
 -- w in front of ws, unless it is empty
 abbrev pub keep : List ℕ → List (List ℕ) → List (List ℕ)
@@ -114,25 +114,25 @@ isWithin p (direct d) = ltb d (p .b)
 isWithin p (literal z) = inRange (limit (p .k)) z
 
 -- "13 (not an argument, or a form that place does not allow, a written special register included), 14 (..)"
-abbrev pub placed : Parameters → ℕ → Option Argument → Checked ℕ
-placed p form none = fault 13
-placed p form (some a) = cond (allows form a) (cond (isWithin p a) (fine (argumentWord a)) (fault 14)) (fault 13)
+abbrev pub checkedArgument : Parameters → ℕ → Option Argument → Checked ℕ
+checkedArgument p form none = fault 13
+checkedArgument p form (some a) = cond (allows form a) (cond (isWithin p a) (fine (argumentWord a)) (fault 14)) (fault 13)
 
 -- "for each argument from the left": the words behind xs, or the first fault
 unfoldable pub argumentsFrom : Parameters → List ℕ → (forms : List ℕ) → List (List ℕ) → Checked (List ℕ)
 argumentsFrom p xs [] ws = fine xs
 argumentsFrom p xs (f ∷ fs) [] = fault 12
 argumentsFrom p xs (f ∷ fs) (w ∷ ws) =
-    elim (placed p f (argument w)) [ fine x ↦ argumentsFrom p (xs ++ (x ∷ [])) fs ws | fault k ↦ fault k ]
+    elim (checkedArgument p f (argument w)) [ fine x ↦ argumentsFrom p (xs ++ (x ∷ [])) fs ws | fault k ↦ fault k ]
 
 -- The instruction's number in front of its arguments.
 abbrev pub headed : ℕ → Checked (List ℕ) → Checked Cell
 headed n (fine xs) = fine (cellWith n xs)
 headed n (fault k) = fault k
 
--- "11 unknown instruction, 12 wrong count of arguments", then the arguments. "A line without words is NOP", number 44.
+-- "11 unknown instruction, 12 wrong count of arguments", then the arguments. "A line without words is NOP."
 unfoldable pub lineCell : Parameters → List (List ℕ) → Checked Cell
-lineCell p [] = fine (cellWith 44 [])
+lineCell p [] = fine (cellWith nopNumber [])
 lineCell p (w ∷ ws) =
     elim (eqb (lookup w) 0) [
       | true ↦ fault 11

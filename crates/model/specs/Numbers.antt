@@ -63,3 +63,7 @@ digitsOf (suc fuel) n s = elim (ltb n 10) [ true ↦ (48 + n) ∷ s | false ↦ 
 abbrev pub decimal : ℤ → List ℕ
 decimal (pos n) = digitsOf (suc n) n []
 decimal (negsuc n) = 45 ∷ digitsOf (suc (suc n)) (suc n) []
+
+-- The most bytes of a number of 32 bits: a minus and ten digits.
+abbrev pub longestDecimal : ℕ
+longestDecimal = 11

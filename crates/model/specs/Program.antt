@@ -11,7 +11,6 @@ use Rattle.model.specs.declared.Ending.the-variants.{Failed, Ended, Paus
 use Rattle.model.specs.declared.Outcome.{Outcome}
 use Rattle.model.specs.declared.Outcome.the-variants.{Refused, Stopped}
 use Rattle.model.specs.declared.LoadReply.the-variants as load
-use Rattle.model.specs.Parameters.{maxGrant}
 use Rattle.model.specs.Load.{loadReply, imageOf}
 use Rattle.model.specs.Grants.{Call}
 use Rattle.model.specs.Step.{Environment, environmentOf}
@@ -47,6 +46,7 @@ replyLines x = valueLines (take (x .reply .values) (x .slice)) ++ lastLines (x .
 abbrev pub sliceValues : ℕ
 sliceValues = 4096
 
+-- A grant of `takrun`, lent this slice.
 abbrev pub sliceCall : (cycles : ℕ) → Call
 sliceCall cycles = record { cycles = cycles; slice = replicate sliceValues (pos 0) }
 
@@ -57,11 +57,15 @@ grantLines e (suc n) cycles h =
     let x = granted e h (sliceCall cycles) in
     replyLines x ++ elim (isFull (x .reply .outcome)) [ true ↦ grantLines e n 0 (heldAfter x) | false ↦ [] ]
 
--- "grants 10^9 once": a full output has spent at least one of these cycles, so that 10^9 + 1 grants are never used up.
+-- "grants 10^9 once"
+abbrev pub firstGrant : ℕ
+firstGrant = 1_000_000_000
+
+-- The lines behind a start: a full output has spent at least one of these cycles, so that 10^9 + 1 grants are never used up.
 abbrev pub startLines : Environment → Started → List ℕ
 startLines e s =
     elim (s .reply .refusal) [
-      | zero ↦ grantLines e (suc maxGrant) maxGrant (heldAfterStart s)
+      | zero ↦ grantLines e (suc firstGrant) firstGrant (heldAfterStart s)
       | suc k ↦ refusalLine (suc k) 0
     ]
 

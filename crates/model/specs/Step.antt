@@ -21,6 +21,7 @@ pub record Environment : Type 0 where
   pub image : List ℕ
   pub input : List ℕ
 
+-- The environment of these.
 abbrev pub environmentOf : Parameters → (image input : List ℕ) → Environment
 environmentOf p image input = record { parameters = p; image = image; input = input }
 
@@ -33,6 +34,7 @@ pub record Memory : Type 0 where
   pub registers : List ℤ
   pub cells : List ℤ
 
+-- The memory of two slices.
 abbrev pub asMemory : (registers cells : List ℤ) → Memory
 asMemory registers cells = record { registers = registers; cells = cells }
 

@@ -10,6 +10,7 @@ use lib.ListN.{getD, take, drop}
 abbrev pub kindOf : ℕ → ℕ
 kindOf w = w / 2 ^ 30
 
+-- Of these, the kinds of arguments.
 abbrev pub registerKind : ℕ
 registerKind = 1
 

@@ -69,8 +69,8 @@ unfoldable pub failedPlan : ℕ → Core → Plan
 failedPlan k c = record { value = pos 0; to = nowhere; next = record { iar = c .iar; ircr = k; top = c .top; place = c .place } }
 
 -- A value or a return code, as the code computes it,
-abbrev pub settledPlan : (to : ℕ) → Computed → Core → Plan
-settledPlan to a c = record { value = a .value; to = to; next = record { iar = c .iar + 1; ircr = a .code; top = c .top; place = c .place } }
+abbrev pub computedPlan : (to : ℕ) → Computed → Core → Plan
+computedPlan to a c = record { value = a .value; to = to; next = record { iar = c .iar + 1; ircr = a .code; top = c .top; place = c .place } }
 
 -- and as the definitions answer it, with the machine at `moved` where it succeeds.
 abbrev pub answeredPlan : (to : ℕ) (moved c : Core) → Answer → Plan

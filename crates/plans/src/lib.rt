@@ -4,7 +4,7 @@ ghost use Prim.Native.Nat.{_+_, _≤_};
 ghost use lib.IntN.{pos};
 ghost use lib.ListN.{length};
 ghost use Rattle.bounds.specs.Bounds.{IsLimit};
-ghost use Rattle.plans.specs.Plans.{keptPlan, failedPlan, writtenPlan, settledPlan, jumpPlan, takenPlan, booleanPlan, pushPlan, popPlan, inputPlan};
+ghost use Rattle.plans.specs.Plans.{keptPlan, failedPlan, writtenPlan, computedPlan, jumpPlan, takenPlan, booleanPlan, pushPlan, popPlan, inputPlan};
 ghost use Rattle.model.specs.Parameters.{maxCells, maxInstructions};
 use arithmetic::Computed;
 use logic::booleans::is_boolean;
@@ -85,7 +85,7 @@ pub fn fail(code: u32, at: Core) -> Plan
 // The value of a computation goes somewhere, or its code is set. Without a choice here IAR does not wait for the value.
 pub fn store_answer(to: u32, answer: Computed, at: Core) -> Plan
     requires { ⌜ at .iar ≤ maxInstructions ⌝ }
-    ensures { λ r. ⌜ r ≡ settledPlan to answer at ⌝ }
+    ensures { λ r. ⌜ r ≡ computedPlan to answer at ⌝ }
 {
     let mut plan = store(to, answer.value, at);
     plan.next.ircr = answer.code;

@@ -13,6 +13,7 @@ pricesFor mode rs = map (λ (r : Row). getD (r .prices) mode 1) rs
 unfoldable pub priceTable : List ℕ
 priceTable = pricesFor 0 rows ++ (pricesFor 1 (take 6 (drop 4 rows)) ++ pricesFor 2 (take 1 (drop 6 rows)))
 
+-- How many there are.
 abbrev pub priceCount : ℕ
 priceCount = 61
 

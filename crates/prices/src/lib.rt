@@ -8,12 +8,18 @@ ghost use Rattle.model.specs.Images.{cellFits};
 ghost use Rattle.image.specs.Decode.{cellFrom};
 ghost use Rattle.prices.specs.Prices.{priceTable, priceCount, priceOf, valueCount};
 use image::decode::Instruction;
+use image::forms::INSTRUCTIONS;
 use image::words::kind;
 use model::Parameters;
 use model::words::DIRECT;
 
 // How many prices the table has.
 pub const ENTRIES: usize = 61;
+
+// Where the prices for one direct argument begin, less the number of IN, which is the first; and the price for two, MOV's.
+const ONE_DIRECT: u32 = INSTRUCTIONS - 5;
+
+const TWO_DIRECT: usize = ENTRIES - 1;
 
 // By number, from 1 on, for no direct argument; then for one, IN, OUT, MOV, SET, PUSH and POP; then for two, MOV.
 const PRICES: [u32; ENTRIES] = [
@@ -104,8 +110,8 @@ fn direct_arguments(i: Instruction) -> u32
     direct(i.first) + direct(i.second) + direct(i.third)
 }
 
-// The place in the table of the price of one of the first ten.
-fn price_place(i: Instruction) -> usize
+// Where the price of one of the first ten stands in the table.
+fn price_index(i: Instruction) -> usize
     requires { ⌜ (1 ≤ i .number) × (i .number ≤ 10) ⌝ }
     requires { ⌜ directs (cellFrom i) < length (rowOf (i .number) .prices) ⌝ }
     ensures { λ r. ⌜ getD priceTable r 0 ≡ priceOf (i .number) (directs (cellFrom i)) ⌝ }
@@ -116,9 +122,9 @@ fn price_place(i: Instruction) -> usize
         return (i.number - 1) as usize;
     }
     if mode == 1 {
-        return (i.number + 49) as usize;
+        return (i.number + ONE_DIRECT) as usize;
     }
-    60
+    TWO_DIRECT
 }
 
 // The cost of an instruction. Beyond the first ten none has a direct argument; prices of the first four are times N, S, N and S.
@@ -132,7 +138,7 @@ pub fn cost(i: Instruction, p: Parameters, prices: &[u32]) -> u64
         let at = (number - 1) as usize;
         return prices[at] as u64;
     }
-    let at = price_place(i);
+    let at = price_index(i);
     let price = prices[at] as u64;
     if 4 < number {
         return price;

@@ -24,15 +24,15 @@ use Rattle.model.specs.Step.{Environment, State, Tak, writtenBy, currentCell, c
 use Rattle.model.specs.declared.Ending.{Ending}
 use Rattle.model.specs.declared.Ending.the-variants.{Failed, Ended, Paused, OutputFull}
 use Rattle.model.specs.declared.Outcome.the-variants.{Stopped}
-use Rattle.model.specs.Program.{isFull}
+use Rattle.model.specs.Program.{sliceValues, isFull}
 use Rattle.session.specs.Sessions.{Progress}
 
 -- No step writes more than 4,096 values.
-few : (e : Environment) → Fit (e .parameters) → (s : State) → Sound e s → length (stepValues e s) ≤ 4096
+few : (e : Environment) → Fit (e .parameters) → (s : State) → Sound e s → length (stepValues e s) ≤ sliceValues
 unfolding stepValues
 few e f s h = go (currentOperation e s)
   where
-    go : (o : Operation) → length (writtenBy o (currentCell e s) s) ≤ 4096
+    go : (o : Operation) → length (writtenBy o (currentCell e s) s) ≤ sliceValues
     go clearRegisters = omega arith
     go clearCells = omega arith
     go dumpRegisters = omega (arith, h .register-count, limits (e .parameters) f .n-high)
@@ -55,7 +55,7 @@ look-full running true crowded h = cc
 look-full running false true h = refl
 look-full running false false h = cc
 
-module _ (e : Environment) (a : Account State) (c : Call) (h : grantRefusal e a c ≡ 0) (room : 4096 ≤ length (c .slice)) where
+module _ (e : Environment) (a : Account State) (c : Call) (h : grantRefusal e a c ≡ 0) (room : sliceValues ≤ length (c .slice)) where
   abbrev given : ℕ
   given = a .granted + c .cycles
 
@@ -100,7 +100,7 @@ full-ending Ended h = cc
 full-ending Paused h = cc
 full-ending OutputFull h = refl
 
-module _ (e : Environment) (h : Held) (c : Call) (room : 4096 ≤ length (c .slice)) where
+module _ (e : Environment) (h : Held) (c : Call) (room : sliceValues ≤ length (c .slice)) where
   abbrev own : Environment
   own = environmentFor e h
 

@@ -17,7 +17,7 @@ use Rattle.model.specs.Calls.{Held, environmentFor, accountOf, Started, started
 use Rattle.model.specs.Grants.{Call, accept, handBack}
 use Rattle.model.specs.Lines.{valueLines, endingLine, refusalLine}
 use Rattle.model.specs.Load.{loadReply, imageAfter}
-use Rattle.model.specs.Program.{isFull, lastLines, replyLines, sliceValues}
+use Rattle.model.specs.Program.{isFull, lastLines, replyLines, sliceValues, firstGrant}
 use Rattle.model.specs.Step.{Environment, Memory, Tak, environmentOf}
 use Rattle.model.specs.declared.Ending.{Ending}
 use Rattle.model.specs.declared.Ending.the-variants.{Failed, Ended, Paused, OutputFull}
@@ -27,7 +27,6 @@ use Rattle.model.specs.declared.LoadReply.the-variants as load
 use Rattle.model.specs.declared.Outcome.the-variants as outcome
 use Rattle.model.specs.declared.Parameters.{Parameters}
 use Rattle.model.specs.declared.StartReply.{StartReply}
-use Rattle.model.specs.Parameters.{maxGrant}
 use Rattle.session.proofs.Pieces.{put-then, put-front}
 use Rattle.session.specs.Puts.{Put}
 use Rattle.session.proofs.Advance.{full-progress}
@@ -62,7 +61,7 @@ module _ (e : Environment) (memory₀ : Memory) (lines₀ : List ℕ) {x : Start
       }
 
   pub has-begun : s .refusal ≡ 0 →
-      BeginIs e memory₀ lines₀ (record { count = 0; more = true; rec = s .rec; cycles = maxGrant }) (x .memory) lines₀
+      BeginIs e memory₀ lines₀ (record { count = 0; more = true; rec = s .rec; cycles = firstGrant }) (x .memory) lines₀
   has-begun h =
       let none = sym number ∙ h in
       record {

@@ -16,13 +16,13 @@ use borrow.Rule.Slice.PartAt.{part-to-end}
 use borrow.Rule.Slice.PartMut.{putMid}
 use Rattle.model.proofs.Decimals.{digits-at-most, decimal-length}
 use Rattle.model.specs.Calls.{Spelled, spelled, endingWord}
-use Rattle.model.specs.Numbers.{decimal}
+use Rattle.model.specs.Numbers.{decimal, longestDecimal}
 use Rattle.model.specs.declared.DecimalReply.{DecimalReply}
 use Rattle.model.specs.declared.Ending.{Ending}
 use Rattle.model.specs.declared.Ending.the-variants.{Failed, Ended, Paused, OutputFull}
 use Rattle.writer.specs.Decimal.{written}
 use Rattle.model.specs.Lines.{field, valueLine, valueLines}
-use Rattle.session.specs.Puts.{Put}
+use Rattle.session.specs.Puts.{longestWord, Put}
 
 -- One piece behind another.
 pub sets-append : (s t out : List ℕ) (at : ℕ) → sets out at (s ++ t) ≡ sets (sets out at s) (at + length s) t
@@ -73,22 +73,22 @@ put-next bytes out at i h =
     ∙ sets-append (take i bytes) (getD bytes i 0 ∷ []) out at
 
 -- THE DECIMAL WRITER, lent enough
-pub spelled-fits : {r : DecimalReply} {out : List ℕ} (z : ℤ) (old : List ℕ) → 11 ≤ length old → written r out ≡ spelled z old →
+pub spelled-fits : {r : DecimalReply} {out : List ℕ} (z : ℤ) (old : List ℕ) → longestDecimal ≤ length old → written r out ≡ spelled z old →
     (r .count ≡ length (decimal z)) × (out ≡ decimal z ++ drop (r .count) old)
 unfolding spelled
 spelled-fits z old h e =
-    let f = rw (le-ltb (length old) 11 h) at e in
+    let f = rw (le-ltb (length old) longestDecimal h) at e in
     let n = ap (λ (x : Spelled). x .reply .count) f in
     (n, ap (λ (x : Spelled). x .bytes) f ∙ rw n)
 
 -- The decimal of z is put into the rest of the buffer, with room for a byte behind it.
 abbrev pub DecimalPut : (z : ℤ) (out : List ℕ) (at : ℕ) (r : DecimalReply) (rest : List ℕ) → Type 0
-DecimalPut z out at r rest = (r .count ≤ 11) × Put out at (decimal z) (putMid at (length out - at) out rest) (at + r .count)
+DecimalPut z out at r rest = (r .count ≤ longestDecimal) × Put out at (decimal z) (putMid at (length out - at) out rest) (at + r .count)
 
 pub decimal-put : {z : ℤ} {r : DecimalReply} {rest : List ℕ} (out : List ℕ) (at : ℕ) → SFits w32 z → at + 12 ≤ length out →
     written r rest ≡ spelled (toZ w32 (ofZ w32 z)) (take (length out - at) (drop at out)) → DecimalPut z out at r rest
 decimal-put {z} {r} {rest} out at f h e =
-    let l : 11 ≤ length (take (length out - at) (drop at out)) = rw (part-to-end, length-drop) (omega arith) in
+    let l : longestDecimal ≤ length (take (length out - at) (drop at out)) = rw (part-to-end, length-drop) (omega arith) in
     let d = spelled-fits z (take (length out - at) (drop at out)) l (rw (toZ-ofZ f) at e) in
     let k = decimal-length z (f .sfits) in
     let room : at + length (decimal z) ≤ length out = omega arith in
@@ -101,7 +101,7 @@ value-line-length z h = rw (length-append (decimal z) (10 ∷ [])) (omega (arith
 pub field-length : (n : ℕ) → n < 2 ^ 64 → length (field n) ≤ 21
 field-length n h = omega (arith, digits-at-most (suc n) n (omega arith) 19 [] (omega arith))
 
-pub word-length : (e : Ending) → length (endingWord e) ≤ 11
+pub word-length : (e : Ending) → length (endingWord e) ≤ longestWord
 unfolding endingWord
 word-length Failed = omega arith
 word-length Ended = omega arith

@@ -17,8 +17,8 @@ use Rattle.model.specs.Calls.{Held, asCall, environmentFor, accountOf, Started,
 use Rattle.model.specs.Grants.{Call, accept, handBack}
 use Rattle.model.specs.Lines.{refusalLine}
 use Rattle.model.specs.Load.{imageOf, imageAfter, loadChecks, loadReply}
-use Rattle.model.specs.Parameters.{_unless_, refusalOf, parameterChecks, Fit, maxRegisters, maxCells, maxInstructions, maxText, maxGrant}
-use Rattle.model.specs.Program.{isFull, replyLines, sliceValues, sliceCall, grantLines, startLines, printed}
+use Rattle.model.specs.Parameters.{_unless_, refusalOf, parameterChecks, Fit, maxRegisters, maxCells, maxInstructions, maxText}
+use Rattle.model.specs.Program.{isFull, replyLines, sliceValues, sliceCall, grantLines, firstGrant, startLines, printed}
 use Rattle.model.specs.Settings.{settings}
 use Rattle.model.specs.Step.{Environment, Memory, Tak, environmentOf}
 use Rattle.model.specs.declared.GrantReply.{GrantReply}
@@ -195,67 +195,67 @@ start-stops e s h = go (s .reply .refusal) refl
     go zero q = absurd (false≢true (sym h ∙ eq-eqb (s .reply .refusal) 0 q))
     go (suc k) q = rw q
 
-pub start-goes : (e : Environment) (s : Started) → s .reply .refusal ≡ 0 → startLines e s ≡ grantLines e (suc maxGrant) maxGrant (heldAfterStart s)
+pub start-goes : (e : Environment) (s : Started) → s .reply .refusal ≡ 0 → startLines e s ≡ grantLines e (suc firstGrant) firstGrant (heldAfterStart s)
 start-goes e s q = rw q
 
 -- THE RUN
 module _ (par text input : List ℕ) where
-  abbrev settled : Parameters
-  settled = settings par
+  abbrev chosen : Parameters
+  chosen = settings par
 
   -- What the program is run in, if its text loads.
   abbrev pub loadedIn : Environment
-  loadedIn = environmentOf settled (imageOf settled text) input
+  loadedIn = environmentOf chosen (imageOf chosen text) input
 
   abbrev begun : Started
-  begun = started loadedIn (freshMemory settled)
+  begun = started loadedIn (freshMemory chosen)
 
-  pub printed-refused : (k i : ℕ) → loadReply settled text (replicate (4 * settled .t) 0) ≡ load.Refused k i → printed par text input ≡ refusalLine k i
+  pub printed-refused : (k i : ℕ) → loadReply chosen text (replicate (4 * chosen .t) 0) ≡ load.Refused k i → printed par text input ≡ refusalLine k i
   unfolding printed
   printed-refused k i h = rw (printed, h)
 
-  pub printed-loaded : (n : ℕ) → loadReply settled text (replicate (4 * settled .t) 0) ≡ load.Accepted n → printed par text input ≡ startLines loadedIn begun
+  pub printed-loaded : (n : ℕ) → loadReply chosen text (replicate (4 * chosen .t) 0) ≡ load.Accepted n → printed par text input ≡ startLines loadedIn begun
   unfolding printed
   printed-loaded n h = rw (printed, h)
 
-  module _ {image : List ℕ} {memory : Memory} (sizes : Sizes settled image memory) where
+  module _ {image : List ℕ} {memory : Memory} (sizes : Sizes chosen image memory) where
     -- Start, which is lent no input, on the image that was loaded.
-    same-reply : (n : ℕ) → loadReply settled text image ≡ load.Accepted n → {image₁ : List ℕ} → image₁ ≡ imageOf settled text →
-        Same (started (environmentOf settled image₁ []) memory) begun
+    same-reply : (n : ℕ) → loadReply chosen text image ≡ load.Accepted n → {image₁ : List ℕ} → image₁ ≡ imageOf chosen text →
+        Same (started (environmentOf chosen image₁ []) memory) begun
     same-reply n e q =
-        let fit = accepted-fit settled text image n e in
-        rw (q, input-unread loadedIn memory) (start-alike loadedIn memory (memory-sized settled fit sizes))
+        let fit = accepted-fit chosen text image n e in
+        rw (q, input-unread loadedIn memory) (start-alike loadedIn memory (memory-sized chosen fit sizes))
 
     module _ {lines : List ℕ} {r : Report} {image₁ lines₁ : List ℕ} {memory₁ : Memory}
-        (is : OpenIs settled text image memory lines r image₁ memory₁ lines₁) where
+        (is : OpenIs chosen text image memory lines r image₁ memory₁ lines₁) where
       abbrev By : LoadReply → Type 0
-      By l = OpenBy settled text image memory lines l r image₁ memory₁ lines₁
+      By l = OpenBy chosen text image memory lines l r image₁ memory₁ lines₁
 
       abbrev loaded : LoadReply
-      loaded = loadReply settled text image
+      loaded = loadReply chosen text image
 
       refused-prints : r .more ≡ false → take (r .count) lines₁ ≡ printed par text input
       refused-prints more = go loaded refl (is .image) (is .by)
         where
-          go : (l : LoadReply) → loaded ≡ l → image₁ ≡ imageAfter settled text image l → By l → take (r .count) lines₁ ≡ printed par text input
-          go (load.Refused k i) e q b = shows-text (b .shows) ∙ sym (printed-refused k i (sym (load-alike settled text image sizes) ∙ e))
+          go : (l : LoadReply) → loaded ≡ l → image₁ ≡ imageAfter chosen text image l → By l → take (r .count) lines₁ ≡ printed par text input
+          go (load.Refused k i) e q b = shows-text (b .shows) ∙ sym (printed-refused k i (sym (load-alike chosen text image sizes) ∙ e))
           go (load.Accepted n) e q b =
               let number = ap (λ (x : StartReply). x .refusal) (same-reply n e q .reply) in
               let stops = ap (λ (k : ℕ). eqb k 0) (sym number) ∙ sym (b .more) ∙ more in
               shows-text (b .shows)
               ∙ ap startLine number
               ∙ sym (start-stops loadedIn begun stops)
-              ∙ sym (printed-loaded n (sym (load-alike settled text image sizes) ∙ e))
+              ∙ sym (printed-loaded n (sym (load-alike chosen text image sizes) ∙ e))
 
       granted-prints : r .more ≡ true → {values : List ℤ} → length values ≡ sliceValues → {out : List ℕ} →
-          Grants (environmentOf settled image₁ input) (record { rec = r .rec; memory = memory₁ }) (asCall (r .cycles) values) lines₁ out →
+          Grants (environmentOf chosen image₁ input) (record { rec = r .rec; memory = memory₁ }) (asCall (r .cycles) values) lines₁ out →
           take (r .count) lines₁ ++ out ≡ printed par text input
       granted-prints more size {out} chain = go loaded refl (is .image) (is .by)
         where
-          go : (l : LoadReply) → loaded ≡ l → image₁ ≡ imageAfter settled text image l → By l → take (r .count) lines₁ ++ out ≡ printed par text input
+          go : (l : LoadReply) → loaded ≡ l → image₁ ≡ imageAfter chosen text image l → By l → take (r .count) lines₁ ++ out ≡ printed par text input
           go (load.Refused k i) e q b = absurd (false≢true (sym (b .more) ∙ more))
           go (load.Accepted n) e q b =
-              let lent = environmentOf settled image₁ [] in
+              let lent = environmentOf chosen image₁ [] in
               let same = same-reply n e q in
               let none = eqb-true (started lent memory .reply .refusal) 0 (sym (b .more) ∙ more) in
               let number = ap (λ (x : StartReply). x .refusal) (sym (same .reply)) ∙ none in
@@ -263,16 +263,16 @@ module _ (par text input : List ℕ) where
               let fresh = b .rec ∙ start-fresh lent memory none in
               let spent = ap (λ (x : Record). x .spent) fresh in
               let given = ap (λ (x : Record). x .granted) fresh in
-              let lines = grants-print (environmentOf settled image₁ input) chain size (suc maxGrant) (omega (arith, first, spent, given)) in
+              let lines = grants-print (environmentOf chosen image₁ input) chain size (suc firstGrant) (omega (arith, first, spent, given)) in
               let rec = b .rec ∙ ap (λ (x : StartReply). x .rec) (same .reply) in
               let all = rw (q, first, rec, b .memory ∙ same .memory none) at lines in
               ap (λ (front : List ℕ). front ++ out) (shows-text (b .shows) ∙ ap startLine none)
               ∙ all
               ∙ sym (start-goes loadedIn begun number)
-              ∙ sym (printed-loaded n (sym (load-alike settled text image sizes) ∙ e))
+              ∙ sym (printed-loaded n (sym (load-alike chosen text image sizes) ∙ e))
 
     -- Every run, whatever the buffers held before, writes exactly what document 01 says.
-    pub run-prints : {values : List ℤ} → length values ≡ sliceValues → {lines out : List ℕ} → Run settled text input image memory values lines out →
+    pub run-prints : {values : List ℤ} → length values ≡ sliceValues → {lines out : List ℕ} → Run chosen text input image memory values lines out →
         out ≡ printed par text input
     run-prints size (refused is more) = refused-prints is more
     run-prints size (goes is more chain) = granted-prints is more size chain

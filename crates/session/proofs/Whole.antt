@@ -14,8 +14,8 @@ use Rattle.machine.proofs.Demand.{input-unread}
 use Rattle.model.specs.Calls.{Held, environmentFor, accountOf, startChecks, started, heldAfterStart, Granted, granted, recordFits, grantChecks, grantRefusal}
 use Rattle.model.specs.Grants.{Call}
 use Rattle.model.specs.Load.{lengthCheck, loadChecks, loadReply}
-use Rattle.model.specs.Parameters.{Check, _unless_, refusalOf, parameterChecks, maxText, maxInput, maxGrant}
-use Rattle.model.specs.Program.{isFull, replyLines, sliceCall, grantLines, startLines, printed}
+use Rattle.model.specs.Parameters.{Check, _unless_, refusalOf, parameterChecks, maxText, maxInput}
+use Rattle.model.specs.Program.{isFull, replyLines, sliceCall, grantLines, firstGrant, startLines, printed}
 use Rattle.model.specs.Settings.{settings}
 use Rattle.model.specs.Step.{Environment, Memory, environmentOf}
 use Rattle.model.specs.declared.LoadReply.{LoadReply}
@@ -94,7 +94,7 @@ start-long p image m x y long-x long-y = go (started (lent x) m .reply .refusal)
     go zero h =
         let fresh = ap (λ (r : Record). r .place) (start-fresh (lent x) m h) in
         start-goes (lent x) (started (lent x) m) h
-        ∙ lines-long p image (heldAfterStart (started (lent x) m)) fresh maxGrant maxGrant x y long-x long-y
+        ∙ lines-long p image (heldAfterStart (started (lent x) m)) fresh firstGrant firstGrant x y long-x long-y
         ∙ sym (start-goes (lent y) (started (lent x) m) h)
         ∙ ap (startLines (lent y)) same
     go (suc k) h =

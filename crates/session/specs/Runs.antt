@@ -16,7 +16,7 @@ use Rattle.session.specs.declared.Report.{Report}
 abbrev heldBy : Report → Memory → Held
 heldBy r m = record { rec = r .rec; memory = m }
 
--- Calls of `run_grant`, each with the parameters of its record, the record, the cycles and the buffers that the call before it left, until one says that no more follows.
+-- Calls of `run_grant`, each with the record, its parameters, the cycles and the buffers that the call before it left, until one says that none follows.
 pub data Grants (e : Environment) : Held → Call → (lines out : List ℕ) → Type 0 where
   last : {h : Held} {c : Call} {memory₁ : Memory} {values₁ : List ℤ} {lines lines₁ : List ℕ} {r : Report} →
       ReportIs (environmentFor e h) h c lines r memory₁ values₁ lines₁ →

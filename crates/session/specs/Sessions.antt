@@ -11,12 +11,12 @@ use Rattle.model.specs.Grants.{Call}
 use Rattle.model.specs.Step.{Environment, environmentOf, Memory}
 use Rattle.model.specs.Lines.{refusalLine}
 use Rattle.model.specs.Load.{loadReply, imageAfter}
-use Rattle.model.specs.Program.{isFull, replyLines, sliceValues}
+use Rattle.model.specs.Program.{isFull, replyLines, sliceValues, firstGrant}
 use Rattle.model.specs.declared.LoadReply.{LoadReply}
 use Rattle.model.specs.declared.LoadReply.the-variants as load
 use Rattle.model.specs.declared.Parameters.{Parameters}
 use Rattle.model.specs.declared.Record.{Record}
-use Rattle.model.specs.Parameters.{maxRegisters, maxCells, maxInstructions, maxGrant}
+use Rattle.model.specs.Parameters.{maxRegisters, maxCells, maxInstructions}
 use Rattle.session.specs.declared.Report.{Report}
 
 -- START. "A refused call prints .. number, line index (0 but from load), and is the last."
@@ -38,7 +38,7 @@ module _ (e : Environment) (memory₀ : Memory) (lines₀ : List ℕ) where
     pub more : r .more ≡ eqb (begun .reply .refusal) 0
     pub rec : r .rec ≡ begun .reply .rec
     -- "grants 10^9 once"
-    pub cycles : r .more ≡ true → r .cycles ≡ maxGrant
+    pub cycles : r .more ≡ true → r .cycles ≡ firstGrant
     pub memory : memory₁ ≡ begun .memory
 
 -- LOAD, THEN START.
@@ -51,10 +51,6 @@ pub record Sizes (p : Parameters) (image : List ℕ) (memory : Memory) : Type 0 
   pub words : length image ≡ 4 * sizeOf (p .t) maxInstructions
   pub register-count : length (memory .registers) ≡ sizeOf (p .n) maxRegisters
   pub cell-count : length (memory .cells) ≡ sizeOf (p .s) maxCells
-
--- The bytes of a grant's lines: at most 12 for a value, 80 for the last line.
-abbrev pub linesBytes : ℕ
-linesBytes = 12 * sliceValues + 80
 
 -- A refused load is the last call.
 pub record Unloaded (k i : ℕ) (memory₀ : Memory) (lines₀ : List ℕ) (r : Report) (memory₁ : Memory) (lines₁ : List ℕ) : Type 0 where
@@ -73,6 +69,10 @@ module _ (p : Parameters) (text image₀ : List ℕ) (memory₀ : Memory) (lines
     pub by : OpenBy (loadReply p text image₀) r image₁ memory₁ lines₁
 
 -- A GRANT AND ITS LINES.
+-- The bytes of the lines: at most 12 for a value, 80 for the last line.
+abbrev pub linesBytes : ℕ
+linesBytes = 12 * sliceValues + 80
+
 -- What a full output leaves, from the record `before` on: at least one cycle spent more, and the grants' cycles together are not used up.
 -- So 0 granted after each full output comes to an end.
 pub record Progress (before : Record) (cycles : ℕ) (after : Record) : Type 0 where

@@ -56,7 +56,10 @@ fn grant_after(count: usize, rec: Record, cycles: u64) -> Report
     }
 }
 
-// Start; the first grant is of 10^9 cycles.
+// The cycles of the first grant; one behind a full output has 0.
+const FIRST_GRANT: u64 = 1_000_000_000;
+
+// Start; then the first grant follows.
 fn begin(
     p: Parameters,
     image: &[u32],
@@ -74,7 +77,7 @@ fn begin(
     if started.refusal != 0 {
         return stop_after(put_refusal(started.refusal, 0, lines, 0), rec);
     }
-    grant_after(0, rec, Record::MAX_GRANT)
+    grant_after(0, rec, FIRST_GRANT)
 }
 
 // Load, then start.

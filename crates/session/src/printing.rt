@@ -3,7 +3,7 @@ ghost use Prim.Native.Nat.{_+_, _*_, _≤_};
 ghost use lib.ListN.{length};
 ghost use Rattle.model.specs.Calls.{endingWord};
 ghost use Rattle.model.specs.Lines.{field, valueLine, valueLines, endingLine, refusalLine};
-ghost use Rattle.session.specs.Puts.{Put};
+ghost use Rattle.session.specs.Puts.{longestWord, Put};
 use model::Ending;
 use writer::decimal::write_decimal;
 use writer::natural::write_natural;
@@ -59,7 +59,7 @@ pub fn put_values(values: &[i32], out: &mut [u8]) -> usize
 
 // The paper's word for an ending.
 fn put_ending_word(ending: Ending, out: &mut [u8], at: usize) -> usize
-    requires { ⌜ at + 11 ≤ length (now out) ⌝ }
+    requires { ⌜ at + longestWord ≤ length (now out) ⌝ }
     ensures { λ r. ⌜ Put (now (out .entry)) at (endingWord ending) (now (out .exit)) r ⌝ }
 {
     match ending {

@@ -1,4 +1,4 @@
--- However a file is cut into chunks, the scan of them settles to the settings of the whole file. Assumes nothing.
+-- However a file is cut into chunks, the scan of them gives the settings of the whole file. Assumes nothing.
 use Prim.Native.Nat.{ℕ, suc, _+_, _*_, _^_, _≤_, _<_}
 use mathlib.Core.Path.{_≡_, refl, sym, ap, _∙_}
 use mathlib.Core.Bool.{Bool, true, false, cond, false≢true}
@@ -17,7 +17,7 @@ use Rattle.model.specs.declared.Parameters.{Parameters}
 use Rattle.model.proofs.Fits.{and-both}
 use Rattle.settings.specs.declared.Scan.{Scan}
 use Rattle.model.specs.Settings.{fieldsFrom, fields, setting, allSettings, zeros, five, settings}
-use Rattle.settings.specs.Scans.{unread, shifted, counted, ended, extends, extended, scanned, scannedAll, scanOf, settled}
+use Rattle.settings.specs.Scans.{unread, shifted, counted, ended, extends, extended, scanned, scannedAll, scanOf, settingsOf}
 use Rattle.settings.proofs.WordLaws.{digit-behind, settings-cons, fields-blank, fields-byte, Bad, bad-long, bad-other, bad-fields}
 use Rattle.settings.proofs.ScanLaws.{Void, room, ended-none, ended-word, ended-void, scanned-blank, scanned-digit, scanned-bad, scanned-void}
 
@@ -58,10 +58,10 @@ finish-counted p k o = go (decLt k 6)
     go (no g) = rw (le-ltb k 6 (omega arith)) (finish-many p 6 o (omega arith) ∙ sym (finish-many p (k + 1) o (omega arith)))
 
 -- THE REST OF A FILE
-pub settled-void : (s : List ℕ) (a : Scan) → Void a → settled (scannedAll a s) ≡ zeros
-unfolding settled
-settled-void [] a h = simp (settled, ended-void a h)
-settled-void (b ∷ s) a h = settled-void s (scanned a b) (scanned-void a h b)
+pub settings-of-void : (s : List ℕ) (a : Scan) → Void a → settingsOf (scannedAll a s) ≡ zeros
+unfolding settingsOf
+settings-of-void [] a h = simp (settingsOf, ended-void a h)
+settings-of-void (b ∷ s) a h = settings-of-void s (scanned a b) (scanned-void a h b)
 
 -- The scan has read w, the beginning of a word or of none.
 record Holds (w : List ℕ) (a : Scan) : Type 0 where
@@ -113,9 +113,9 @@ bad-byte w a b h e = go (isDigit b) refl (decLt (a .digits) 9)
         let k : 10 ^ a .digits ≤ 10 ^ 8 = pow-le-pow-right {n = 10} (omega arith) {i = a .digits} {j = 8} (omega arith) in
         absurd (false≢true (sym e ∙ and-both d (and-both (lt-ltb _ _ l) (lt-ltb (a .value) 100_000_000 (omega (arith, h .small))))))
 
--- Behind the bytes s, a scan that has read w settles to its words and those of s, the first of which begins with w.
+-- Behind the bytes s, a scan that has read w gives its words and those of s, the first of which begins with w.
 abbrev Rest : List ℕ → List ℕ → Scan → Type 0
-Rest s w a = settled (scannedAll a s) ≡ finish (a .last) (a .count) (allSettings (fieldsFrom w s))
+Rest s w a = settingsOf (scannedAll a s) ≡ finish (a .last) (a .count) (allSettings (fieldsFrom w s))
 
 module _ (b : ℕ) (s w : List ℕ) (a : Scan) (h : Holds w a) (later : (w : List ℕ) (a : Scan) → Holds w a → Rest s w a) where
   rest-blank : isBlank b ≡ true → Rest (b ∷ s) w a
@@ -126,7 +126,7 @@ module _ (b : ℕ) (s w : List ℕ) (a : Scan) (h : Holds w a) (later : (w : Lis
   rest-byte n true e =
       rw (scanned-digit a b n e, fields-byte w b s n) (later (w ++ (b ∷ [])) (extended a b) (holds-digit w a b h e))
   rest-byte n false e =
-      settled-void s (scanned a b) (ap (λ (r : Scan). r .count) (scanned-bad a b n e))
+      settings-of-void s (scanned a b) (ap (λ (r : Scan). r .count) (scanned-bad a b n e))
       ∙ sym (ap (finish (a .last) (a .count)) (ap allSettings (fields-byte w b s n) ∙ bad-fields (w ++ (b ∷ [])) s (bad-byte w a b h e)))
 
   rest-cons : (x : Bool) → isBlank b ≡ x → Rest (b ∷ s) w a
@@ -134,13 +134,13 @@ module _ (b : ℕ) (s w : List ℕ) (a : Scan) (h : Holds w a) (later : (w : Lis
   rest-cons false n = rest-byte n (extends a b) refl
 
 rest : (s w : List ℕ) (a : Scan) → Holds w a → Rest s w a
-unfolding settled fieldsFrom allSettings
+unfolding settingsOf fieldsFrom allSettings
 rest [] w a h = ap (λ (n : ℕ). cond (eqb n 5) (ended a .last) zeros) (sym (add-zero (ended a .count))) ∙ finish-ended w a h []
 rest (b ∷ s) w a h = rest-cons b s w a h (rest s) (isBlank b) refl
 
 -- THE FILE
-pub settled-file : (file : List ℕ) → settled (scanOf file) ≡ settings file
-settled-file file = rest file [] unread (holds-none zeros 0) ∙ five-finish (allSettings (fields file))
+pub settings-of-file : (file : List ℕ) → settingsOf (scanOf file) ≡ settings file
+settings-of-file file = rest file [] unread (holds-none zeros 0) ∙ five-finish (allSettings (fields file))
 
 scanned-chunks : (a : Scan) (chunks : List (List ℕ)) → foldl scannedAll a chunks ≡ scannedAll a (flatten chunks)
 unfolding flatten
@@ -148,13 +148,13 @@ scanned-chunks a [] = refl
 scanned-chunks a (s ∷ chunks) = scanned-chunks (scannedAll a s) chunks ∙ sym (foldl-append scanned a s (flatten chunks))
 
 -- Chunk by chunk, the parameters of the joined bytes.
-pub settled-chunks : (chunks : List (List ℕ)) → settled (foldl scannedAll unread chunks) ≡ settings (flatten chunks)
-settled-chunks chunks = ap settled (scanned-chunks unread chunks) ∙ settled-file (flatten chunks)
+pub settings-of-chunks : (chunks : List (List ℕ)) → settingsOf (foldl scannedAll unread chunks) ≡ settings (flatten chunks)
+settings-of-chunks chunks = ap settingsOf (scanned-chunks unread chunks) ∙ settings-of-file (flatten chunks)
 
 -- THE CONTRACTS
 pub scan-joined : {a r : Scan} {s : List ℕ} → r ≡ scannedAll a s →
     (r ≡ scannedAll a s) × ((before : List ℕ) → a ≡ scanOf before → r ≡ scanOf (before ++ s))
 scan-joined {a} {r} {s} e = (e, λ before k. e ∙ ap (λ (x : Scan). scannedAll x s) k ∙ sym (foldl-append scanned unread before s))
 
-pub settled-meaning : {a : Scan} {r : Parameters} → r ≡ settled a → (r ≡ settled a) × ((file : List ℕ) → a ≡ scanOf file → r ≡ settings file)
-settled-meaning e = (e, λ file k. e ∙ ap settled k ∙ settled-file file)
+pub settings-of-meaning : {a : Scan} {r : Parameters} → r ≡ settingsOf a → (r ≡ settingsOf a) × ((file : List ℕ) → a ≡ scanOf file → r ≡ settings file)
+settings-of-meaning e = (e, λ file k. e ∙ ap settingsOf k ∙ settings-of-file file)

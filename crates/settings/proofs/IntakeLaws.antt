@@ -11,12 +11,12 @@ use Rattle.model.proofs.Fits.{both, by-cond}
 use Rattle.model.specs.Numbers.{isBlank}
 use Rattle.model.specs.Settings.{zeros, settings}
 use Rattle.settings.specs.Intakes.{knownWrong, goesOn, atEnd, taken, Pieces, ends, stops, next}
-use Rattle.settings.specs.Scans.{unread, counted, ended, extends, scanned, scannedAll, scanOf, settled}
+use Rattle.settings.specs.Scans.{unread, counted, ended, extends, scanned, scannedAll, scanOf, settingsOf}
 use Rattle.settings.specs.declared.Scan.{Scan}
 use Rattle.settings.specs.declared.intakes.Intake.{Intake}
 use Rattle.settings.specs.declared.transfers.Transfer.{Transfer}
 use Rattle.settings.proofs.ScanLaws.{Void, ended-word, scanned-blank, scanned-digit, scanned-bad}
-use Rattle.settings.proofs.Chunks.{settled-void, settled-file}
+use Rattle.settings.proofs.Chunks.{settings-of-void, settings-of-file}
 
 -- A scan, by the code's tests.
 module _ (a : Scan) where
@@ -67,32 +67,32 @@ record Sixth (a : Scan) : Type 0 where
 sixth-ended : (a : Scan) → Sixth a → Void (ended a)
 sixth-ended a h = ap (λ (r : Scan). r .count) (ended-word a (λ e. omega (arith, h .some))) ∙ ap counted (h .count)
 
-settled-sixth : (s : List ℕ) (a : Scan) → Sixth a → settled (scannedAll a s) ≡ zeros
-unfolding settled
-settled-sixth [] a h = simp (settled, sixth-ended a h)
-settled-sixth (b ∷ s) a h = go (isBlank b) refl (extends a b) refl (settled-sixth s)
+settings-of-sixth : (s : List ℕ) (a : Scan) → Sixth a → settingsOf (scannedAll a s) ≡ zeros
+unfolding settingsOf
+settings-of-sixth [] a h = simp (settingsOf, sixth-ended a h)
+settings-of-sixth (b ∷ s) a h = go (isBlank b) refl (extends a b) refl (settings-of-sixth s)
   where
-    go : (x : Bool) → isBlank b ≡ x → (y : Bool) → extends a b ≡ y → ((r : Scan) → Sixth r → settled (scannedAll r s) ≡ zeros) →
-        settled (scannedAll (scanned a b) s) ≡ zeros
-    go true n y e later = rw (scanned-blank a b n) (settled-void s (ended a) (sixth-ended a h))
+    go : (x : Bool) → isBlank b ≡ x → (y : Bool) → extends a b ≡ y → ((r : Scan) → Sixth r → settingsOf (scannedAll r s) ≡ zeros) →
+        settingsOf (scannedAll (scanned a b) s) ≡ zeros
+    go true n y e later = rw (scanned-blank a b n) (settings-of-void s (ended a) (sixth-ended a h))
     go false n true e later = rw (scanned-digit a b n e) (later _ (record { count = h .count; some = omega (arith, h .some) }))
-    go false n false e later = rw (scanned-bad a b n e) (settled-void s _ refl)
+    go false n false e later = rw (scanned-bad a b n e) (settings-of-void s _ refl)
 
-wrong-settled : (s : List ℕ) (a : Scan) → knownWrong a ≡ true → settled (scannedAll a s) ≡ zeros
+wrong-settings : (s : List ℕ) (a : Scan) → knownWrong a ≡ true → settingsOf (scannedAll a s) ≡ zeros
 unfolding knownWrong
-wrong-settled s a h = go (eqb (a .count) 6) refl h
+wrong-settings s a h = go (eqb (a .count) 6) refl h
   where
-    go : (x : Bool) → eqb (a .count) 6 ≡ x → (x || (eqb (a .count) 5 && ltb 0 (a .digits))) ≡ true → settled (scannedAll a s) ≡ zeros
-    go true e k = settled-void s a (eqb-true (a .count) 6 e)
+    go : (x : Bool) → eqb (a .count) 6 ≡ x → (x || (eqb (a .count) 5 && ltb 0 (a .digits))) ≡ true → settingsOf (scannedAll a s) ≡ zeros
+    go true e k = settings-of-void s a (eqb-true (a .count) 6 e)
     go false e k =
         let b = both (eqb (a .count) 5) (ltb 0 (a .digits)) k in
-        settled-sixth s a (record { count = eqb-true (a .count) 5 (b .0); some = ltb-true 0 (a .digits) (b .1) })
+        settings-of-sixth s a (record { count = eqb-true (a .count) 5 (b .0); some = ltb-true 0 (a .digits) (b .1) })
 
 -- Where the bytes so far are known to be wrong, every file that begins with them counts as five zeros, and so does the scan that stops there.
 pub known-wrong : (before : List ℕ) → knownWrong (scanOf before) ≡ true →
-    (settled (scanOf before) ≡ zeros) × ((rest : List ℕ) → settings (before ++ rest) ≡ zeros)
+    (settingsOf (scanOf before) ≡ zeros) × ((rest : List ℕ) → settings (before ++ rest) ≡ zeros)
 known-wrong before h =
-    (wrong-settled [] (scanOf before) h, λ rest. sym (settled-file (before ++ rest)) ∙ ap settled (foldl-append scanned unread before rest) ∙ wrong-settled rest (scanOf before) h)
+    (wrong-settings [] (scanOf before) h, λ rest. sym (settings-of-file (before ++ rest)) ∙ ap settingsOf (foldl-append scanned unread before rest) ∙ wrong-settings rest (scanOf before) h)
 
 -- ALL READS
 module _ (a : Intake) (t : Transfer) (bytes : List ℕ) (fine : t .failed ≡ false) where
@@ -103,16 +103,16 @@ module _ (a : Intake) (t : Transfer) (bytes : List ℕ) (fine : t .failed ≡ fa
       ∙ ap (λ (x : Scan). scannedAll x (take (t .count) bytes)) e
       ∙ sym (foldl-append scanned unread before (take (t .count) bytes))
 
--- However the file comes in pieces, the scan that they end with settles to the settings of the whole file.
-pub pieces-settle : {a b : Intake} {rest : List ℕ} → Pieces a rest b → (before : List ℕ) → a .scan ≡ scanOf before → settled (b .scan) ≡ settings (before ++ rest)
-pieces-settle {a} (ends t bytes fine end) before e =
-    ap settled (ap (λ (x : Intake). x .scan) (sym (taken-end a t bytes fine end)) ∙ e) ∙ settled-file before ∙ ap settings (sym (append-nil before))
-pieces-settle {a} (stops t bytes rest fine part wrong) before e =
+-- However the file comes in pieces, the scan that they end with gives the settings of the whole file.
+pub pieces-settings : {a b : Intake} {rest : List ℕ} → Pieces a rest b → (before : List ℕ) → a .scan ≡ scanOf before → settingsOf (b .scan) ≡ settings (before ++ rest)
+pieces-settings {a} (ends t bytes fine end) before e =
+    ap settingsOf (ap (λ (x : Intake). x .scan) (sym (taken-end a t bytes fine end)) ∙ e) ∙ settings-of-file before ∙ ap settings (sym (append-nil before))
+pieces-settings {a} (stops t bytes rest fine part wrong) before e =
     let piece = take (t .count) bytes in
     let scan = piece-scan a t bytes fine part before e in
     let same = ap (λ (x : Scan). scannedAll x piece) e ∙ sym (foldl-append scanned unread before piece) in
     let known = known-wrong (before ++ piece) (ap knownWrong (sym same) ∙ wrong) in
-    ap settled scan ∙ known .0 ∙ sym (known .1 rest) ∙ ap settings (append-assoc before piece rest)
-pieces-settle {a} (next t bytes rest fine part later) before e =
+    ap settingsOf scan ∙ known .0 ∙ sym (known .1 rest) ∙ ap settings (append-assoc before piece rest)
+pieces-settings {a} (next t bytes rest fine part later) before e =
     let piece = take (t .count) bytes in
-    pieces-settle later (before ++ piece) (piece-scan a t bytes fine part before e) ∙ ap settings (append-assoc before piece rest)
+    pieces-settings later (before ++ piece) (piece-scan a t bytes fine part before e) ∙ ap settings (append-assoc before piece rest)

@@ -11,7 +11,7 @@ use borrow.Author.Tests.{eq-eqb, ne-eqb, ltb-true}
 use Rattle.model.specs.Numbers.{isBlank, isDigit}
 use Rattle.model.proofs.Fits.{both, by-cond, is-between}
 use Rattle.settings.specs.declared.Scan.{Scan}
-use Rattle.settings.specs.Scans.{shifted, counted, ended, extends, extended, voided, scanned, scannedAll, settled}
+use Rattle.settings.specs.Scans.{shifted, counted, ended, extends, extended, voided, scanned, scannedAll, settingsOf}
 use Rattle.model.specs.Settings.{zeros}
 
 module _ (a : Scan) where
@@ -51,13 +51,13 @@ module _ (a : Scan) (h : Void a) where
 
 -- The end of the file, which ends a word.
 module _ (a : Scan) {w : Scan} (e : w ≡ ended a) where
-  pub settled-five : w .count ≡ 5 → w .last ≡ settled a
-  unfolding settled
-  settled-five h = rw e (sym (simp (settled, eq-eqb (ended a .count) 5 (ap (λ (r : Scan). r .count) (sym e) ∙ h))))
+  pub settings-of-five : w .count ≡ 5 → w .last ≡ settingsOf a
+  unfolding settingsOf
+  settings-of-five h = rw e (sym (simp (settingsOf, eq-eqb (ended a .count) 5 (ap (λ (r : Scan). r .count) (sym e) ∙ h))))
 
-  pub settled-other : ¬ (w .count ≡ 5) → zeros ≡ settled a
-  unfolding settled
-  settled-other h = sym (simp (settled, ne-eqb (ended a .count) 5 (λ k. h (ap (λ (r : Scan). r .count) e ∙ k))))
+  pub settings-of-other : ¬ (w .count ≡ 5) → zeros ≡ settingsOf a
+  unfolding settingsOf
+  settings-of-other h = sym (simp (settingsOf, ne-eqb (ended a .count) 5 (λ k. h (ap (λ (r : Scan). r .count) e ∙ k))))
 
 -- What is known of a digit that extends the word.
 pub record Room (a : Scan) (b : ℕ) : Type 0 where

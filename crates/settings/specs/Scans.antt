@@ -1,4 +1,4 @@
--- The scan of a file whose bytes come in chunks, as the code makes it. That it settles to the `settings` of the file is in proofs/Chunks.antt.
+-- The scan of a file whose bytes come in chunks, as the code makes it. That it gives the `settings` of the file is in proofs/Chunks.antt.
 use Prim.Native.Nat.{ℕ, _+_, _*_, _-_}
 use mathlib.Core.Bool.{Bool, _&&_, cond}
 use mathlib.Core.List.{List, foldl}
@@ -51,5 +51,5 @@ abbrev pub scanOf : List ℕ → Scan
 scanOf s = scannedAll unread s
 
 -- the parameters, at the end of the file
-unfoldable pub settled : Scan → Parameters
-settled a = cond (eqb (ended a .count) 5) (ended a .last) zeros
+unfoldable pub settingsOf : Scan → Parameters
+settingsOf a = cond (eqb (ended a .count) 5) (ended a .last) zeros

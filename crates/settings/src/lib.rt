@@ -11,7 +11,7 @@ ghost use Prim.Native.Nat.{ℕ};
 ghost use mathlib.Core.Path.{_≡_};
 ghost use mathlib.Core.List.{List, [], _++_};
 ghost use Rattle.model.specs.Settings.{settings};
-ghost use Rattle.settings.specs.Scans.{ended, extends, scanned, scannedAll, scanOf, settled};
+ghost use Rattle.settings.specs.Scans.{ended, extends, scanned, scannedAll, scanOf, settingsOf};
 use model::Parameters;
 use text::bytes::is_blank;
 use text::bytes::is_digit;
@@ -123,7 +123,7 @@ pub fn scan_chunk(scan: Scan, chunk: &[u8]) -> Scan
 
 // The parameters, at the end of the file.
 pub fn settings_of(scan: Scan) -> Parameters
-    ensures { λ r. ⌜ r ≡ settled scan ⌝ }
+    ensures { λ r. ⌜ r ≡ settingsOf scan ⌝ }
     ensures meaning { λ r. ⌜ ((file : List ℕ) → scan ≡ scanOf file → r ≡ settings file) ⌝ }
 {
     let whole = end_word(scan);

@@ -13,15 +13,15 @@ use borrow.Author.Tests.{eqb-true, eqb-false, ne-eqb}
 use Rattle.model.proofs.Ranges.{Good, WritesRange}
 use Rattle.model.specs.Arithmetic.{Answer, value, code}
 use Rattle.model.specs.Instructions.{Position, first, Operation, clearRegisters, clearCells, dumpRegisters, dumpCells, inputs, outputs, pushes, pops, skips, idles, writes, jumps, jumpsOn}
-use Rattle.model.specs.Parameters.{limit, isBoolean, isTrue}
+use Rattle.model.specs.Parameters.{maxCells, limit, isBoolean, isTrue}
 use Rattle.model.specs.Step.{Environment, State, withIAR, withIRCR, withSHR, withPlace, withRegisters, withCells, registerValue, valueOf, store, argumentAt, Effect, succeeds, fails, next, stores, jumpTo, push, pop, blanksOf, tokenOf, inputAnswer, input, execute, settled, writtenBy}
-use Rattle.model.specs.Words.{Cell, kindOf, contentOf, numberOf, wordOf}
+use Rattle.model.specs.Words.{Cell, kindOf, registerKind, directKind, numberKind, contentOf, shrNumber, numberOf, wordOf}
 use Rattle.model.specs.declared.Parameters.{Parameters}
 use Rattle.arithmetic.specs.Answers.{computed}
 use Rattle.operands.specs.Cores.{stateOf}
 use Rattle.operands.specs.declared.Core.{Core}
 use Rattle.steps.specs.Choices.{planOf}
-use Rattle.plans.specs.Plans.{registersAfter, cellsAfter, valuesOf, planned, writtenPlan, keptPlan, failedPlan, settledPlan, answeredPlan, jumpPlan, takenPlan, booleanPlan, withTop, movedTo, pushPlan, popPlan, inputPlan}
+use Rattle.plans.specs.Plans.{registersAfter, cellsAfter, valuesOf, planned, writtenPlan, keptPlan, failedPlan, computedPlan, answeredPlan, jumpPlan, takenPlan, booleanPlan, withTop, movedTo, pushPlan, popPlan, inputPlan}
 use Rattle.plans.specs.declared.Plan.{Plan}
 use Rattle.steps.proofs.Tops.{raised-top, top-raised, lowered-top, head-of, empty-top}
 
@@ -51,10 +51,10 @@ NamesTarget o c = (to : Position) → targetOf o ≡ some to → Named (argument
 
 module _ (registers cells : List ℤ) where
   -- A word that names something is no instruction's number.
-  registers-named : (w : ℕ) (v : ℤ) → Named w → registersAfter w v registers ≡ cond (eqb (kindOf w) 1) (set registers (contentOf w) v) registers
+  registers-named : (w : ℕ) (v : ℤ) → Named w → registersAfter w v registers ≡ cond (eqb (kindOf w) registerKind) (set registers (contentOf w) v) registers
   registers-named w v h = rw (ne-eqb w 1 (λ e. omega arith))
 
-  cells-named : (w : ℕ) (v : ℤ) → Named w → cellsAfter w v cells ≡ cond (eqb (kindOf w) 2) (set cells (contentOf w) v) cells
+  cells-named : (w : ℕ) (v : ℤ) → Named w → cellsAfter w v cells ≡ cond (eqb (kindOf w) directKind) (set cells (contentOf w) v) cells
   cells-named w v h = rw (ne-eqb w 2 (λ e. omega arith))
 
   values-named : (w : ℕ) (v : ℤ) → Named w → valuesOf w v registers cells ≡ []
@@ -76,7 +76,7 @@ module _ (registers cells : List ℤ) where
   written-step : (c at : Core) (w : ℕ) (v : ℤ) → Named w →
       planned c (writtenPlan w v at) registers cells ≡ settled (stateOf at registers cells) (next (store w v (stateOf at registers cells)))
   unfolding planned writtenPlan store
-  written-step c at w v h = rw (registers-named w v h, cells-named w v h) (go (eqb (kindOf w) 1) (eqb (kindOf w) 2) refl refl)
+  written-step c at w v h = rw (registers-named w v h, cells-named w v h) (go (eqb (kindOf w) registerKind) (eqb (kindOf w) directKind) refl refl)
     where
       s : State
       s = stateOf at registers cells
@@ -84,11 +84,11 @@ module _ (registers cells : List ℤ) where
       stored : (a b : Bool) → State
       stored a b = cond a (withRegisters (set registers (contentOf w) v) s) (cond b (withCells (set cells (contentOf w) v) s) s)
 
-      go : (a b : Bool) → eqb (kindOf w) 1 ≡ a → eqb (kindOf w) 2 ≡ b →
+      go : (a b : Bool) → eqb (kindOf w) registerKind ≡ a → eqb (kindOf w) directKind ≡ b →
           stateOf (record { iar = at .iar + 1; ircr = 0; top = at .top; place = at .place })
           (cond a (set registers (contentOf w) v) registers) (cond b (set cells (contentOf w) v) cells)
           ≡ withIRCR 0 (withIAR (stored a b .iar + 1) (stored a b))
-      go true true d e = absurd (omega (arith, eqb-true (kindOf w) 1 d, eqb-true (kindOf w) 2 e))
+      go true true d e = absurd (omega (arith, eqb-true (kindOf w) registerKind d, eqb-true (kindOf w) directKind e))
       go true false d e = refl
       go false true d e = refl
       go false false d e = refl
@@ -121,11 +121,11 @@ module _ (registers cells : List ℤ) where
   answered-does at n w (code k) h = failed-does at k
 
   -- A value or a code, as the code computes it.
-  settled-does : (m : ℕ) (at : Core) (w : ℕ) (a : Answer) → Good m a → Named w →
-      Does at (settledPlan w (computed a) at) (stores w (stateOf at registers cells) a) []
+  computed-does : (m : ℕ) (at : Core) (w : ℕ) (a : Answer) → Good m a → Named w →
+      Does at (computedPlan w (computed a) at) (stores w (stateOf at registers cells) a) []
   unfolding planned writtenPlan
-  settled-does m at w (value v) g h = written-does at at w v h
-  settled-does m at w (code k) g h = record { step = rw (ne-eqb k 0 (omega (arith, g .0))); values = values-named w _ h; silent = λ n. refl }
+  computed-does m at w (value v) g h = written-does at at w v h
+  computed-does m at w (code k) g h = record { step = rw (ne-eqb k 0 (omega (arith, g .0))); values = values-named w _ h; silent = λ n. refl }
 
   -- JUMPS
   jump-does : (e : Environment) (at : Core) (z : ℤ) → Does at (jumpPlan (e .parameters .t) z at) (jumpTo e z (stateOf at registers cells)) []
@@ -146,50 +146,50 @@ module _ (registers cells : List ℤ) where
   boolean-does e at y z b = cond-does (isBoolean y) (λ h. taken-does e at z b) (λ h. failed-does at 2)
 
   -- THE STACK. With SHR raised, every word says what it said before but SHR's own.
-  raised-register : (at : Core) (z : ℤ) (r : ℕ) → ¬ (r ≡ 258) →
+  raised-register : (at : Core) (z : ℤ) (r : ℕ) → ¬ (r ≡ shrNumber) →
       registerValue (stateOf at registers cells) r ≡ registerValue (withSHR z (stateOf at registers cells)) r
   unfolding registerValue
-  raised-register at z r n = rw (ne-eqb r 258 n)
+  raised-register at z r n = rw (ne-eqb r shrNumber n)
 
-  raised-other : (at : Core) (z : ℤ) (w : ℕ) → ¬ (w ≡ wordOf 1 258) →
+  raised-other : (at : Core) (z : ℤ) (w : ℕ) → ¬ (w ≡ wordOf registerKind shrNumber) →
       valueOf (stateOf at registers cells) w ≡ valueOf (withSHR z (stateOf at registers cells)) w
   unfolding valueOf
-  raised-other at z w n = go (eqb (kindOf w) 1) refl
+  raised-other at z w n = go (eqb (kindOf w) registerKind) refl
     where
       s : State
       s = stateOf at registers cells
 
       rest : ℤ
-      rest = cond (eqb (kindOf w) 2) (getD cells (contentOf w) (pos 0)) (cond (eqb (kindOf w) 3) (numberOf (contentOf w)) (pos 0))
+      rest = cond (eqb (kindOf w) directKind) (getD cells (contentOf w) (pos 0)) (cond (eqb (kindOf w) numberKind) (numberOf (contentOf w)) (pos 0))
 
-      go : (b : Bool) → eqb (kindOf w) 1 ≡ b → cond b (registerValue s (contentOf w)) rest ≡ cond b (registerValue (withSHR z s) (contentOf w)) rest
-      go true e = raised-register at z (contentOf w) (λ q. n (omega (arith, eqb-true (kindOf w) 1 e)))
+      go : (b : Bool) → eqb (kindOf w) registerKind ≡ b → cond b (registerValue s (contentOf w)) rest ≡ cond b (registerValue (withSHR z s) (contentOf w)) rest
+      go true e = raised-register at z (contentOf w) (λ q. n (omega (arith, eqb-true (kindOf w) registerKind e)))
       go false e = refl
 
-  raised-head : (at : Core) (z : ℤ) (w : ℕ) → w ≡ wordOf 1 258 → z ≡ valueOf (withSHR z (stateOf at registers cells)) w
+  raised-head : (at : Core) (z : ℤ) (w : ℕ) → w ≡ wordOf registerKind shrNumber → z ≡ valueOf (withSHR z (stateOf at registers cells)) w
   unfolding valueOf registerValue
   raised-head at z w e = rw e
 
   raised-value : (at : Core) (w : ℕ) →
-      cond (eqb w (wordOf 1 258)) (pos (at .top)) (valueOf (stateOf at registers cells) w)
+      cond (eqb w (wordOf registerKind shrNumber)) (pos (at .top)) (valueOf (stateOf at registers cells) w)
       ≡ valueOf (withSHR (pos (at .top)) (stateOf at registers cells)) w
-  raised-value at w = go (eqb w (wordOf 1 258)) refl
+  raised-value at w = go (eqb w (wordOf registerKind shrNumber)) refl
     where
-      go : (b : Bool) → eqb w (wordOf 1 258) ≡ b →
+      go : (b : Bool) → eqb w (wordOf registerKind shrNumber) ≡ b →
           cond b (pos (at .top)) (valueOf (stateOf at registers cells) w) ≡ valueOf (withSHR (pos (at .top)) (stateOf at registers cells)) w
-      go true e = raised-head at (pos (at .top)) w (eqb-true w (wordOf 1 258) e)
-      go false e = raised-other at (pos (at .top)) w (eqb-false w (wordOf 1 258) e)
+      go true e = raised-head at (pos (at .top)) w (eqb-true w (wordOf registerKind shrNumber) e)
+      go false e = raised-other at (pos (at .top)) w (eqb-false w (wordOf registerKind shrNumber) e)
 
   -- The word of a data cell.
-  cell-does : (d : ℕ) (v : ℤ) (c at : Core) → d ≤ 4096 →
-      Does c (writtenPlan (wordOf 2 d) v at) (next (withCells (set cells d v) (stateOf at registers cells))) []
+  cell-does : (d : ℕ) (v : ℤ) (c at : Core) → d ≤ maxCells →
+      Does c (writtenPlan (wordOf directKind d) v at) (next (withCells (set cells d v) (stateOf at registers cells))) []
   unfolding store
   cell-does d v c at h =
-      let k : kindOf (wordOf 2 d) ≡ 2 = omega arith in
-      let d-is : contentOf (wordOf 2 d) ≡ d = omega arith in
-      rw (k, d-is) at (written-does c at (wordOf 2 d) v (omega arith))
+      let k : kindOf (wordOf directKind d) ≡ directKind = omega arith in
+      let d-is : contentOf (wordOf directKind d) ≡ d = omega arith in
+      rw (k, d-is) at (written-does c at (wordOf directKind d) v (omega arith))
 
-  push-does : (p : Parameters) (at : Core) (w : ℕ) → at .top ≤ 4096 →
+  push-does : (p : Parameters) (at : Core) (w : ℕ) → at .top ≤ maxCells →
       Does at (pushPlan w (valueOf (stateOf at registers cells) w) (p .s) at) (push p w (stateOf at registers cells)) []
   unfolding push pushPlan
   push-does p at w k =
@@ -199,7 +199,7 @@ module _ (registers cells : List ℤ) where
 
   store-head : (w : ℕ) (v z : ℤ) (s : State) → store w v (withSHR z s) ≡ withSHR z (store w v s)
   unfolding store
-  store-head w v z s = go (eqb (kindOf w) 1) (eqb (kindOf w) 2)
+  store-head w v z s = go (eqb (kindOf w) registerKind) (eqb (kindOf w) directKind)
     where
       go : (a b : Bool) →
           cond a (withRegisters (set (s .registers) (contentOf w) v) (withSHR z s)) (cond b (withCells (set (s .cells) (contentOf w) v) (withSHR z s)) (withSHR z s))
@@ -251,7 +251,7 @@ module _ (e : Environment) (at : Core) (registers cells : List ℤ) where
     pub register-count : length registers ≡ e .parameters .n
     pub cell-count : length cells ≡ e .parameters .s
     pub low : e .parameters .b ≤ at .top
-    pub high : at .top ≤ 4096
+    pub high : at .top ≤ maxCells
     pub target : NamesTarget o c
     pub first-within : mag (valueOf s (c .first)) < m
     pub second-within : mag (valueOf s (c .second)) < m
@@ -272,7 +272,7 @@ module _ (e : Environment) (at : Core) (registers cells : List ℤ) where
   plan-does (writes to f) c h =
       let x = valueOf s (c .first) in
       let y = valueOf s (c .second) in
-      settled-does registers cells m at (argumentAt to c) (f m x y) (h .range x y (h .first-within) (h .second-within)) (h .target to refl)
+      computed-does registers cells m at (argumentAt to c) (f m x y) (h .range x y (h .first-within) (h .second-within)) (h .target to refl)
   plan-does (jumps test) c h = taken-does registers cells e at (valueOf s (c .first)) (test (valueOf s (c .second)) (valueOf s (c .third)))
   plan-does (jumpsOn b) c h =
       boolean-does registers cells e at (valueOf s (c .second)) (valueOf s (c .first)) (Bool·beq (isTrue (valueOf s (c .second))) b)

@@ -18,15 +18,15 @@ use Rattle.model.specs.Words.{Cell, kindOf}
 use Rattle.model.specs.declared.Parameters.{Parameters}
 use Rattle.steps.proofs.Steps.{Named, targetOf, NamesTarget}
 
--- How many places an operation needs for what it writes to.
-abbrev places : Option Position → ℕ
-places none = 0
-places (some first) = 1
-places (some second) = 2
-places (some third) = 3
+-- How many arguments an operation needs to have the one that it writes to.
+abbrev argumentsUsed : Option Position → ℕ
+argumentsUsed none = 0
+argumentsUsed (some first) = 1
+argumentsUsed (some second) = 2
+argumentsUsed (some third) = 3
 
-row-places : (n : ℕ) → places (targetOf (rowOf n .operation)) ≤ length (rowOf n .forms)
-row-places n = leb-true _ _ (row-rule (λ (r : Row). leb (places (targetOf (r .operation))) (length (r .forms))) refl n)
+row-arguments : (n : ℕ) → argumentsUsed (targetOf (rowOf n .operation)) ≤ length (rowOf n .forms)
+row-arguments n = leb-true _ _ (row-rule (λ (r : Row). leb (argumentsUsed (targetOf (r .operation))) (length (r .forms))) refl n)
 
 none-fits : (k : ℕ) (a b c : Bool) → cond (eqb k 1) a (cond (eqb k 2) b (eqb k 3 && c)) ≡ true → 1 ≤ k
 none-fits zero a b c h = absurd (let z : _≡_ {A = ℕ} 0 1 = cc in omega arith)
@@ -45,7 +45,7 @@ words-named p (f ∷ fs) (w ∷ ws) (suc i) h l k = words-named p fs ws i (both 
 
 pub names-target : (p : Parameters) (c : Cell) → cellFits p c ≡ true → NamesTarget (rowOf (c .head) .operation) c
 unfolding cellFits
-names-target p c h to e = go to (rw e at (row-places (c .head)))
+names-target p c h to e = go to (rw e at (row-arguments (c .head)))
   where
     fits : wordsFit p (rowOf (c .head) .forms) (c .first ∷ c .second ∷ c .third ∷ []) ≡ true
     fits = both (between 1 (length rows) (c .head)) _ h .1
@@ -53,7 +53,7 @@ names-target p c h to e = go to (rw e at (row-places (c .head)))
     named : (i : ℕ) → i < length (rowOf (c .head) .forms) → i < 3 → Named (getD (c .first ∷ c .second ∷ c .third ∷ []) i 0)
     named i l k = words-named p (rowOf (c .head) .forms) (c .first ∷ c .second ∷ c .third ∷ []) i fits l k
 
-    go : (to : Position) → places (some to) ≤ length (rowOf (c .head) .forms) → Named (argumentAt to c)
+    go : (to : Position) → argumentsUsed (some to) ≤ length (rowOf (c .head) .forms) → Named (argumentAt to c)
     go first l = named 0 l (omega arith)
     go second l = named 1 l (omega arith)
     go third l = named 2 l (omega arith)

@@ -14,7 +14,7 @@ use Rattle.arithmetic.specs.Answers.{computed}
 use Rattle.bounds.specs.Bounds.{IsLimit, Within}
 use Rattle.operands.specs.Cores.{stateOf, Bounded}
 use Rattle.operands.specs.declared.Core.{Core}
-use Rattle.plans.specs.Plans.{allRegisters, allCells, registersOut, cellsOut, valueOut, writtenPlan, keptPlan, settledPlan, jumpPlan, takenPlan, booleanPlan, pushPlan, popPlan, inputPlan}
+use Rattle.plans.specs.Plans.{allRegisters, allCells, registersOut, cellsOut, valueOut, writtenPlan, keptPlan, computedPlan, jumpPlan, takenPlan, booleanPlan, pushPlan, popPlan, inputPlan}
 use Rattle.plans.specs.declared.Plan.{Plan}
 
 module _ (p : Parameters) (input : List ℕ) (at : Core) (registers cells : List ℤ) where
@@ -30,7 +30,7 @@ module _ (p : Parameters) (input : List ℕ) (at : Core) (registers cells : List
   planOf pops c x y = popPlan (c .first) (p .b) at cells
   planOf skips c x y = jumpPlan (p .t) (pos (at .iar + 2)) at
   planOf idles c x y = keptPlan at
-  planOf (writes to f) c x y = settledPlan (argumentAt to c) (computed (f (limit (p .k)) x y)) at
+  planOf (writes to f) c x y = computedPlan (argumentAt to c) (computed (f (limit (p .k)) x y)) at
   planOf (jumps test) c x y = takenPlan (test y (valueOf (stateOf at registers cells) (c .third))) (p .t) x at
   planOf (jumpsOn b) c x y = booleanPlan y (Bool·beq (isTrue y) b) (p .t) x at
 

@@ -1,4 +1,4 @@
-// The machine for callers from C, as include/tak.h declares it: numbers and lent slices. No call has a `requires`: what does not fit is refused.
+// The machine for callers from C, as include/tak.h declares it: numbers and lent slices. No exported call has a `requires`: what does not fit is refused.
 // The header's record slice is `fields` here, since contracts have another use for the word `record`.
 pub mod records;
 

@@ -14,7 +14,7 @@ use lib.Seq.{take-length, drop-length, drop-cons, drop-set-lt, getD-set-same}
 use lib.Signed.{leZ}
 use borrow.Author.Tests.{lt-ltb, le-ltb}
 use borrow.Rule.Slice.PartMut.{putMid}
-use Rattle.model.specs.Numbers.{digitsOf, decimal}
+use Rattle.model.specs.Numbers.{digitsOf, decimal, longestDecimal}
 use Rattle.model.specs.Calls.{spelled}
 use Rattle.model.proofs.Decimals.{by-digits, digits-last, digits-more, digits-append, digits-fuel}
 use Rattle.writer.specs.Decimal.{written}
@@ -106,11 +106,11 @@ minus-first (b ∷ s) ds out count h e =
     rw (k, drop-length, append-nil, add-one) (ap (λ (xs : List ℕ). 45 ∷ xs) f)
 
 -- THE REPLY
-pub spelled-short : (z : ℤ) (old : List ℕ) → length old < 11 → written (record { refusal = 18; count = 0 }) old ≡ spelled z old
+pub spelled-short : (z : ℤ) (old : List ℕ) → length old < longestDecimal → written (record { refusal = 18; count = 0 }) old ≡ spelled z old
 unfolding spelled
-spelled-short z old h = rw (lt-ltb (length old) 11 h)
+spelled-short z old h = rw (lt-ltb (length old) longestDecimal h)
 
-pub spelled-long : (z : ℤ) (old ds out : List ℕ) (count : ℕ) → 11 ≤ length old → decimal z ≡ ds → count ≡ length ds → out ≡ ds ++ drop count old →
+pub spelled-long : (z : ℤ) (old ds out : List ℕ) (count : ℕ) → longestDecimal ≤ length old → decimal z ≡ ds → count ≡ length ds → out ≡ ds ++ drop count old →
     written (record { refusal = 0; count = count }) out ≡ spelled z old
 unfolding spelled
-spelled-long z old ds out count h d n e = rw (le-ltb (length old) 11 h, d, e, n)
+spelled-long z old ds out count h d n e = rw (le-ltb (length old) longestDecimal h, d, e, n)

@@ -65,11 +65,14 @@ fn write_magnitude(n: u32, out: &mut [u8]) -> usize
     count
 }
 
-// Writes the value at the start of `out`: a minus and ten digits at most.
+// The most bytes that a value takes: a minus and ten digits.
+const LONGEST: usize = 11;
+
+// Writes the value at the start of `out`; 18 where the longest would not fit.
 pub fn write_decimal(value: i32, out: &mut [u8]) -> DecimalReply
     ensures { λ r. ⌜ written r (now (out .exit)) ≡ spelled value (now (out .entry)) ⌝ }
 {
-    if out.len() < 11 {
+    if out.len() < LONGEST {
         return DecimalReply {
             refusal: 18,
             count: 0,

@@ -13,12 +13,12 @@ use denote.Ref.{now}
 use Rattle.model.specs.Load.{lines}
 use Rattle.model.proofs.Fits.{limits}
 use Rattle.text.proofs.Walks.{no-lines}
-use Rattle.loader.proofs.TextLaws.{Standing, at-start, too-many, at-fault, cell-written, cell-passed, held-refused, all-read, all-held, refused-line, room}
+use Rattle.loader.proofs.TextLaws.{LinesInvariant, at-start, too-many, at-fault, cell-written, cell-passed, held-refused, all-read, all-held, refused-line, room}
 use Rattle.loader.proofs.parse_lines.Statement.{statement}
 use Rattle.loader.proofs.parse_lines.Tie as tie
 
 abbrev Inv-loop : tie.InvT-loop
-Inv-loop text p m keys slots forms write image₀ t at₀ i₀ image at i = (length image ≡ 4 * p .t) × Standing write p text image₀ image at i
+Inv-loop text p m keys slots forms write image₀ t at₀ i₀ image at i = (length image ≡ 4 * p .t) × LinesInvariant write p text image₀ image at i
 
 abbrev μ-loop : tie.MeasureT-loop
 μ-loop text p m keys slots forms write image₀ t at₀ i₀ image at i = length text - at

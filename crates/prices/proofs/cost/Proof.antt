@@ -13,11 +13,11 @@ use Rattle.prices.proofs.cost.Statement.{statement}
 use Rattle.prices.proofs.cost.Tie as tie
 
 -- The word that was read, and the price that it is.
-bound : (c : tie.After-shared-slice-known3) → getD (now (c .before .before .before .before .args .prices)) (c .before .price-place .result) 0 < 2 ^ 32
-bound c = c .shared-slice-known3 .given (c .before .price-place .result) .fits
+bound : (c : tie.After-shared-slice-known3) → getD (now (c .before .before .before .before .args .prices)) (c .before .price-index .result) 0 < 2 ^ 32
+bound c = c .shared-slice-known3 .given (c .before .price-index .result) .fits
 
-price : (c : tie.After-shared-slice-known3) → getD (now (c .before .before .before .before .args .prices)) (c .before .price-place .result) 0 ≡ priceOf (c .before .before .before .before .args .i .number) (directs (cellFrom (c .before .before .before .before .args .i)))
-price c = rw (c .before .before .before .before .pre .0) (c .before .price-place .ensures .0)
+price : (c : tie.After-shared-slice-known3) → getD (now (c .before .before .before .before .args .prices)) (c .before .price-index .result) 0 ≡ priceOf (c .before .before .before .before .args .i .number) (directs (cellFrom (c .before .before .before .before .args .i)))
+price c = rw (c .before .before .before .before .pre .0) (c .before .price-index .ensures .0)
 
 shared-slice-read-result : tie.Need-shared-slice-read-result
 shared-slice-read-result c =
@@ -32,14 +32,14 @@ returns c =
     let start = c .before .before .before in
     rw (start .pre .0) (cost-undirected (start .args .p) (cellFrom (start .args .i)) (start .pre .1) (c .before .if1 .taken))
 
-price-place-requires : tie.Need-price-place-requires
-price-place-requires c κs =
+price-index-requires : tie.Need-price-index-requires
+price-index-requires c κs =
     let start = c .before .before in
     let cell = cellFrom (start .args .i) in
     ((is-number (start .args .p) cell (start .pre .1) .0, c .if1 .left), directs-priced (start .args .p) cell (start .pre .1))
 
 shared-slice-read-price : tie.Need-shared-slice-read-price
-shared-slice-read-price c = rw (c .before .before .before .before .pre .0, prices-length) (c .before .price-place .ensures .1)
+shared-slice-read-price c = rw (c .before .before .before .before .pre .0, prices-length) (c .before .price-index .ensures .1)
 
 cast-price : tie.Need-cast-price
 cast-price c = omega (arith, bound c)
@@ -71,5 +71,5 @@ pub cost-spec : {M : Type 1} → statement M
 cost-spec =
     tie.close
     (tie.spec (λ c. search needs) (λ c. search needs) (λ c. search needs) shared-slice-read-result cast-result
-    returns price-place-requires (λ c. search needs) shared-slice-read-price cast-price returns-2
+    returns price-index-requires (λ c. search needs) shared-slice-read-price cast-price returns-2
     (λ c. search needs) mul-result-2 returns-3 (λ c. search needs) mul-result-3 returns-4)

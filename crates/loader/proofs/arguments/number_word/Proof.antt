@@ -14,7 +14,7 @@ use Rattle.numbers.proofs.ReadingLaws.{reading-range}
 use Rattle.loader.specs.declared.arguments.WordOrFault.the-variants.{Word}
 use Rattle.model.specs.Numbers.{number}
 use Rattle.model.proofs.Fits.{limits, limit-low, limit-high}
-use Rattle.loader.specs.Places.{wordOrFaultOf}
+use Rattle.loader.specs.Faults.{wordOrFaultOf}
 use Rattle.loader.proofs.ArgumentLaws.{numbered, number-barred, number-read}
 use Rattle.loader.proofs.arguments.number_word.Statement.{statement}
 use Rattle.loader.proofs.arguments.number_word.Tie as tie

@@ -5,8 +5,8 @@ use borrow.Author.Needs.{needs}
 use denote.Ref.{now}
 use Rattle.model.specs.Numbers.{natural}
 use Rattle.model.proofs.Fits.{limits}
-use Rattle.loader.specs.Places.{indexedOf, wordOrFaultOf}
-use Rattle.loader.proofs.ArgumentLaws.{register-barred, register-placed}
+use Rattle.loader.specs.Faults.{indexedOf, wordOrFaultOf}
+use Rattle.loader.proofs.ArgumentLaws.{register-barred, register-checked}
 use Rattle.loader.proofs.arguments.register_word.Statement.{statement}
 use Rattle.loader.proofs.arguments.register_word.Tie as tie
 
@@ -23,7 +23,7 @@ returns c =
     let l = limits p (a .pre) in
     c .indexed .ensures
     ∙ ap (indexedOf 1 (p .n)) (c .before .read-digits .ensures)
-    ∙ register-placed p (a .args .form) (c .before .before .if1 .taken) (omega (arith, l .n-high)) (natural (drop 1 (now (a .args .w))))
+    ∙ register-checked p (a .args .form) (c .before .before .if1 .taken) (omega (arith, l .n-high)) (natural (drop 1 (now (a .args .w))))
 
 returns-2 : tie.Need-returns-2
 returns-2 c =

@@ -5,12 +5,12 @@ use lib.ListN.{length, length-set}
 use borrow.Author.Needs.{needs}
 use denote.Ref.{now}
 use Rattle.loader.specs.Lines.{parsedOf}
-use Rattle.loader.proofs.LineLaws.{Standing, at-start, slot-free, too-few, too-many, all-read, at-fault, at-word}
+use Rattle.loader.proofs.LineLaws.{ArgumentsInvariant, at-start, slot-free, too-few, too-many, all-read, at-fault, at-word}
 use Rattle.loader.proofs.line.parse_arguments.Statement.{statement}
 use Rattle.loader.proofs.line.parse_arguments.Tie as tie
 
 abbrev Inv-loop : tie.InvT-loop
-Inv-loop l from number forms p m arguments₀ at₀ rest₀ i₀ arguments at rest i = (length arguments ≡ 3) × Standing p number l from arguments at rest i
+Inv-loop l from number forms p m arguments₀ at₀ rest₀ i₀ arguments at rest i = (length arguments ≡ 3) × ArgumentsInvariant p number l from arguments at rest i
 
 abbrev μ-loop : tie.MeasureT-loop
 μ-loop l from number forms p m arguments₀ at₀ rest₀ i₀ arguments at rest i = rest
@@ -43,7 +43,7 @@ returns-2 c =
     let w = e .before .next-word .ensures in
     c .fault-unless-miscounted .ensures
     ∙ sym (ap parsedOf (at-fault (a .p) (a .number) (now (a .l)) (a .from) inv (e .before .before .loop-test .taken) w (e .if1 .left) _
-    (sym (c .before .before .before .before .argument-word .ensures) ∙ c .before .before .placed .given .1)))
+    (sym (c .before .before .before .before .argument-word .ensures) ∙ c .before .before .answer .given .1)))
 
 array-write-arguments : tie.Need-array-write-arguments Inv-loop μ-loop
 array-write-arguments c =
@@ -63,7 +63,7 @@ loop-again c =
     let w = e .before .next-word .ensures in (
       simp length-set (at .loop .inv .0),
       at-word (a .p) (a .number) (now (a .l)) (a .from) inv (e .before .before .loop-test .taken) w (e .if1 .left) _
-          (sym (c .before .before .before .argument-word .ensures) ∙ c .before .placed2 .given .1),
+          (sym (c .before .before .before .argument-word .ensures) ∙ c .before .answer2 .given .1),
     )
 
 count-words-requires : tie.Need-count-words-requires Inv-loop μ-loop

@@ -18,7 +18,7 @@ use Rattle.arithmetic.specs.declared.Computed.{Computed}
 use Rattle.bounds.specs.Bounds.{Within}
 use Rattle.image.specs.Decode.{cellFrom}
 use Rattle.operands.specs.Cores.{stateOf}
-use Rattle.plans.specs.Plans.{writtenPlan, settledPlan, takenPlan, booleanPlan}
+use Rattle.plans.specs.Plans.{writtenPlan, computedPlan, takenPlan, booleanPlan}
 use Rattle.plans.specs.declared.Plan.{Plan}
 use Rattle.steps.specs.Choices.{planOf}
 use Rattle.steps.proofs.ChoiceLaws.{NoneTo, beyond, beq-true, beq-false}
@@ -65,10 +65,10 @@ module _ (s : tie.Start) where
     unfolding writtenPlan
     written {to} {f} q k g h = by-row q (h ∙ ap (λ (z : ℤ). writtenPlan (target to) z (s .args .at)) (toZ-ofZ (record { sfits = k }) ∙ g ∙ handed f))
 
-    -- A computation is settled.
-    settled : {to : Position} {f : ℕ → ℤ → ℤ → Answer} → rowOf n .operation ≡ writes to f →
-        {a : Computed} → a ≡ computed (f (s .args .m) x' y') → r ≡ settledPlan (target to) a (s .args .at) → Chosen r
-    settled {to} {f} q g h = by-row q (h ∙ ap (λ (a : Computed). settledPlan (target to) a (s .args .at)) (g ∙ ap computed (handed f)))
+    -- A computation's answer is stored.
+    stored : {to : Position} {f : ℕ → ℤ → ℤ → Answer} → rowOf n .operation ≡ writes to f →
+        {a : Computed} → a ≡ computed (f (s .args .m) x' y') → r ≡ computedPlan (target to) a (s .args .at) → Chosen r
+    stored {to} {f} q g h = by-row q (h ∙ ap (λ (a : Computed). computedPlan (target to) a (s .args .at)) (g ∙ ap computed (handed f)))
 
     -- A comparison with the third value jumps.
     jumped : {test : ℤ → ℤ → Bool} → rowOf n .operation ≡ jumps test →
@@ -118,21 +118,21 @@ choose-spec =
     (λ c. by-row (c .before .before .before) (c .before .match .keys10) refl (c .pop .ensures))
     (λ c. written (c .before .before .before .before) (c .before .before .match .keys11) refl (c .before .boolean .ok) (c .before .boolean .ensures) (c .store8 .ensures))
     (λ c. written (c .before .before .before .before) (c .before .before .match .keys12) refl (c .before .boolean2 .ok) (c .before .boolean2 .ensures) (c .store9 .ensures))
-    (λ c. settled (c .before .before .before .before) (c .before .before .match .keys13) refl (c .before .not .ensures) (c .store-answer .ensures))
-    (λ c. settled (c .before .before .before .before) (c .before .before .match .keys14) refl (c .before .and .ensures) (c .store-answer2 .ensures))
-    (λ c. settled (c .before .before .before .before) (c .before .before .match .keys15) refl (c .before .or .ensures) (c .store-answer3 .ensures))
-    (λ c. settled (c .before .before .before .before) (c .before .before .match .keys16) refl (c .before .xor .ensures) (c .store-answer4 .ensures))
-    (λ c. settled (c .before .before .before .before) (c .before .before .match .keys17) refl (c .before .nand .ensures) (c .store-answer5 .ensures))
-    (λ c. settled (c .before .before .before .before) (c .before .before .match .keys18) refl (c .before .nor .ensures) (c .store-answer6 .ensures))
-    (λ c. settled (c .before .before .before .before) (c .before .before .match .keys19) refl (c .before .neg .ensures .0) (c .store-answer7 .ensures))
-    (λ c. settled (c .before .before .before .before) (c .before .before .match .keys20) refl (c .before .abs .ensures .0) (c .store-answer8 .ensures))
-    (λ c. settled (c .before .before .before .before) (c .before .before .match .keys21) refl (c .before .add .ensures .0) (c .store-answer9 .ensures))
-    (λ c. settled (c .before .before .before .before) (c .before .before .match .keys22) refl (c .before .sub .ensures .0) (c .store-answer10 .ensures))
-    (λ c. settled (c .before .before .before .before) (c .before .before .match .keys23) refl (c .before .mul .ensures .0) (c .store-answer11 .ensures))
-    (λ c. settled (c .before .before .before .before) (c .before .before .match .keys24) refl (c .before .div .ensures .0) (c .store-answer12 .ensures))
-    (λ c. settled (c .before .before .before .before) (c .before .before .match .keys25) refl (c .before .modulo .ensures .0) (c .store-answer13 .ensures))
-    (λ c. settled (c .before .before .before .before) (c .before .before .match .keys26) refl (c .before .add2 .ensures .0) (c .store-answer14 .ensures))
-    (λ c. settled (c .before .before .before .before) (c .before .before .match .keys27) refl (c .before .sub2 .ensures .0) (c .store-answer15 .ensures))
+    (λ c. stored (c .before .before .before .before) (c .before .before .match .keys13) refl (c .before .not .ensures) (c .store-answer .ensures))
+    (λ c. stored (c .before .before .before .before) (c .before .before .match .keys14) refl (c .before .and .ensures) (c .store-answer2 .ensures))
+    (λ c. stored (c .before .before .before .before) (c .before .before .match .keys15) refl (c .before .or .ensures) (c .store-answer3 .ensures))
+    (λ c. stored (c .before .before .before .before) (c .before .before .match .keys16) refl (c .before .xor .ensures) (c .store-answer4 .ensures))
+    (λ c. stored (c .before .before .before .before) (c .before .before .match .keys17) refl (c .before .nand .ensures) (c .store-answer5 .ensures))
+    (λ c. stored (c .before .before .before .before) (c .before .before .match .keys18) refl (c .before .nor .ensures) (c .store-answer6 .ensures))
+    (λ c. stored (c .before .before .before .before) (c .before .before .match .keys19) refl (c .before .neg .ensures .0) (c .store-answer7 .ensures))
+    (λ c. stored (c .before .before .before .before) (c .before .before .match .keys20) refl (c .before .abs .ensures .0) (c .store-answer8 .ensures))
+    (λ c. stored (c .before .before .before .before) (c .before .before .match .keys21) refl (c .before .add .ensures .0) (c .store-answer9 .ensures))
+    (λ c. stored (c .before .before .before .before) (c .before .before .match .keys22) refl (c .before .sub .ensures .0) (c .store-answer10 .ensures))
+    (λ c. stored (c .before .before .before .before) (c .before .before .match .keys23) refl (c .before .mul .ensures .0) (c .store-answer11 .ensures))
+    (λ c. stored (c .before .before .before .before) (c .before .before .match .keys24) refl (c .before .div .ensures .0) (c .store-answer12 .ensures))
+    (λ c. stored (c .before .before .before .before) (c .before .before .match .keys25) refl (c .before .modulo .ensures .0) (c .store-answer13 .ensures))
+    (λ c. stored (c .before .before .before .before) (c .before .before .match .keys26) refl (c .before .add2 .ensures .0) (c .store-answer14 .ensures))
+    (λ c. stored (c .before .before .before .before) (c .before .before .match .keys27) refl (c .before .sub2 .ensures .0) (c .store-answer15 .ensures))
     (λ c. written (c .before .before .before .before) (c .before .before .match .keys28) refl (c .before .cmpeq .ok) (c .before .cmpeq .ensures) (c .store10 .ensures))
     (λ c. written (c .before .before .before .before) (c .before .before .match .keys29) refl (c .before .cmpneq .ok) (c .before .cmpneq .ensures) (c .store11 .ensures))
     (λ c. written (c .before .before .before .before) (c .before .before .match .keys30) refl (c .before .cmplt .ok) (c .before .cmplt .ensures) (c .store12 .ensures))

@@ -1,4 +1,4 @@
--- `price_place` meets its contract. Assumes nothing.
+-- `price_index` meets its contract. Assumes nothing.
 use Prim.Native.Nat.{_≤_}
 use mathlib.Core.Path.{sym, _∙_}
 use native.Mathlib.Omega.{arith}
@@ -6,8 +6,8 @@ use Rattle.model.specs.Instructions.{directs}
 use Rattle.image.specs.Decode.{cellFrom}
 use Rattle.prices.proofs.PriceLaws.{price-none, price-one, price-two}
 use borrow.Author.Needs.{needs}
-use Rattle.prices.proofs.price_place.Statement.{statement}
-use Rattle.prices.proofs.price_place.Tie as tie
+use Rattle.prices.proofs.price_index.Statement.{statement}
+use Rattle.prices.proofs.price_index.Tie as tie
 
 returns : tie.Need-returns
 returns c =
@@ -27,8 +27,8 @@ returns-3 c =
     let two : 2 ≤ directs (cellFrom i) = omega (arith, c .before .before .direct-arguments .ensures, c .before .if1 .left, c .if2 .left) in
     (price-two (i .number) (directs (cellFrom i)) (start .pre .0 .0) (start .pre .0 .1) (start .pre .1) two, omega arith)
 
-pub price-place-spec : {M : Type 1} → statement M
-price-place-spec =
+pub price-index-spec : {M : Type 1} → statement M
+price-index-spec =
     tie.close
     (tie.spec (λ c κs. search needs) (λ c. search needs) (λ c. search needs) returns (λ c. search needs)
     (λ c. search needs) returns-2 returns-3)
