@@ -121,15 +121,16 @@ def wrong_function(edit):
     return found.pop() if len(found) == 1 else ("", "")
 
 
-def errors_of(log, edit):
-    """The errors of a log at the proof of the edit's function; or, where it has no proof file, that the search for its facts finds none,
-    and that nothing which it calls is refused."""
+def own_errors(log, edit):
+    """The errors of a log at the proof of the edit's function that do not merely follow from another refusal; or, where it has no proof file,
+    that the search for its facts finds none, and that nothing which it calls is refused."""
     file, function = wrong_function(edit)
     module = pathlib.PurePosixPath(file).stem
     inside = [] if module in ("lib", "main") else [module]
     proof = "/".join(["proofs", *inside, function, "Proof.antt"])
     if (edit.path.parents[1] / proof).is_file():
-        return re.findall(rf"/{re.escape(proof)}:\d+:\d+: error: .*?(?=\n\S|\Z)", log, re.DOTALL)
+        errors = re.findall(rf"/{re.escape(proof)}:\d+:\d+: error: .*?(?=\n\S|\Z)", log, re.DOTALL)
+        return [error for error in errors if not FOLLOWS.search(" ".join(error.split()))]
     name = "::".join([edit.path.parents[1].name, *inside, function])
     return re.findall(rf"^fn {name}: no proof: expected [^;]*; `search` does not close [^;]*$", log, re.MULTILINE)
 
@@ -155,7 +156,7 @@ def log_faults(edit):
     if "\nlogic=not-proved" not in text:
         yield "its log does not say that it was refused"
     if edit.together:
-        errors = [e for e in errors_of(text, edit) if not FOLLOWS.search(" ".join(e.split()))]
+        errors = own_errors(text, edit)
         if not errors:
             yield f"no error of its own in the log: {wrong_function(edit)[1]} is not refused, or only for what it calls"
     else:
@@ -175,6 +176,25 @@ def together_faults(edits):
             yield f"{edit.name} is in {place[1]}, and so is another"
         if any("⌜" in old + new or "≡" in old + new for _, old, new in edit.pairs):
             yield f"{edit.name} changes a contract, on which other proofs rest"
+
+
+# Lines of a log, and whether they are an error of the edit's own.
+MADE_LOGS = [
+    ("loader/key_not_compared", "/log/proofs/names/find_key/Proof.antt:32:1: error: `returns-2`: the two types\n  differ\n", True),
+    ("loader/key_not_compared", "/log/proofs/names/find_name/Proof.antt:32:1: error: `returns-2`: the two types differ\n", False),
+    (
+        "loader/key_not_compared",
+        "/log/proofs/names/find_key/Proof.antt:49:1: error: `find-key-spec`: `close` was not\n  admitted (it has holes or undetermined implicits, or was rejected)\n",
+        False,
+    ),
+    ("tak/values_and_spent_swapped", "fn tak::tak_grant: no proof: expected `x` in y; `search` does not close `returns`\n", True),
+    ("tak/values_and_spent_swapped", "fn tak::tak_grant: no proof: expected `x` in y; it calls `tak::grant_to`, which is not proved\n", False),
+    (
+        "tak/values_and_spent_swapped",
+        "fn tak::tak_grant: no proof: expected `x` in y; `search` does not close `returns`; it calls `tak::grant_to`, which is not proved\n",
+        False,
+    ),
+]
 
 
 def named_edits():
@@ -202,6 +222,8 @@ def main():
             if with_logs:
                 check(edit.name, list(log_faults(edit)))
         check(str(path.relative_to(ROOT)), list(together_faults([e for e in here if e.together])))
+    for name, log, own in MADE_LOGS:
+        check(name, [] if bool(own_errors(log, edits[name])) == own else [f"a made log is misread: {log}"])
     for name in PROOF_PARTS:
         check(name, [] if name in edits else ["it is on the list of edits that change a proof, and is not there"])
     named = list(named_edits())
