@@ -12,7 +12,7 @@ use Rattle.model.specs.declared.Ending.the-variants.{Failed, Ended, Paus
 use Rattle.model.specs.Numbers.{bytes}
 use Rattle.model.specs.Words.{isEmpty}
 use Rattle.model.specs.Machine.{Status, running, stops, look, lookAt}
-use Rattle.model.specs.Grants.{Call, Account, RunState, run, handBack, refuse, accept, grant}
+use Rattle.model.specs.Grants.{Call, Account, beginning, accountAfter, run, handBack, refuse, accept, grant}
 use Rattle.model.specs.Step.{Environment, State, Tak, currentCell, stateStatus, stepCost, stepValues}
 use Rattle.model.specs.Calls.{Held, grantRefusal, accountOf, environmentFor, Granted, granted, heldAfter, endingWord, outcomeWord, stopWord}
 use Rattle.model.proofs.Fits.{grant-accepted}
@@ -60,10 +60,10 @@ module _ (lent : Environment) (held : Held) (c : Call) where
           ≡ cond (eqb k 0) (stopWord e (accountOf (heldAfter handed)) (length (c .slice) - handed .reply .values)) []
       go zero h =
           let fit = grant-accepted e (accountOf held) c h .start .fit in
-          let from : RunState State = record { state = accountOf held .state; spent = held .rec .spent; written = [] } in
+          let from = beginning (accountOf held) in
           let t = run (Tak e) (held .rec .granted + c .cycles) (length (c .slice)) from in
           rw (h, grant)
-          (stop-word e (record { state = t .at .state; granted = held .rec .granted + c .cycles; spent = t .at .spent })
+          (stop-word e (accountAfter (accountOf held) c t)
           (length (c .slice) - length (t .at .written)) (t .ending)
           (run-looks (Tak e) (priced e fit) (held .rec .granted + c .cycles) (length (c .slice)) from))
       go (suc k) h = rw (h, grant, ne-eqb (suc k) 0 (λ z. omega arith))

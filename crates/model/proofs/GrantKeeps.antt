@@ -10,7 +10,7 @@ use borrow.Author.Tests.{leb-true, le-leb}
 use Rattle.model.specs.Parameters.{Fit, maxGranted, refusalOf}
 use Rattle.model.specs.Images.{imageFits}
 use Rattle.model.specs.Machine.{goes}
-use Rattle.model.specs.Grants.{Call, Account, RunState, handBack, refuse, advance, lookFrom, run, accept, grant}
+use Rattle.model.specs.Grants.{Call, Account, RunState, beginning, handBack, refuse, advance, lookFrom, run, accept, grant}
 use Rattle.model.specs.Step.{Environment, Memory, State, Tak, freshState}
 use Rattle.model.specs.Calls.{freshRecord, startChecks, freshMemory, Started, started, heldAfterStart, recordTests, memoryTests, memoryOf, recordFits, grantRefusal, accountOf}
 use Rattle.model.proofs.Fits.{all-true, all-pass, Sized, GrantFits, start-accepted, grant-accepted}
@@ -101,7 +101,7 @@ module _ (e : Environment) (a : Account State) (c : Call) where
       let k =
       run-keeps (Tak e) granted (length (c .slice)) (Keeping e granted (a .spent))
       (advance-keeps e granted (a .spent) (g .start .fit) (g .start .image-fits) (length (c .slice)))
-      (record { state = a .state; spent = a .spent; written = [] })
+      (beginning a)
       (record { state = s .state; within = omega arith; rises = le-refl (a .spent) }) in
       record {
         sound = record { state = k .state; spent = k .within; granted = g .granted };

@@ -13,7 +13,7 @@ use Rattle.model.specs.declared.Ending.{Ending}
 use Rattle.model.specs.declared.Ending.the-variants.{OutputFull}
 use Rattle.model.specs.declared.Outcome.the-variants.{Stopped}
 use Rattle.model.specs.Machine.{Machine, stops, goes, after, gathered, outputs, costs, lookAt, Reaches, Largest, Priced}
-use Rattle.model.specs.Grants.{Call, Result, RunState, Stop, advance, lookFrom, run, handBack, accept, lookAfter, Runs, accountAt}
+use Rattle.model.specs.Grants.{Call, Result, RunState, Stop, beginning, advance, lookFrom, run, handBack, accept, lookAfter, Runs, accountAt}
 use Rattle.model.proofs.Laws.{going, look-stops, reaches-suc, largest}
 use Rattle.model.proofs.Loop.{run-keeps, run-looks}
 
@@ -99,7 +99,7 @@ module _ (M : Machine) where
   accept-runs priced m g c r f =
       let granted = g + c .cycles in
       let room = length (c .slice) in
-      let begin : RunState St = record { state = after M m; spent = costs M m; written = [] } in
+      let begin = beginning (accountAt M m g) in
       let begun : Reached granted room m begin =
       record {
         n = m;

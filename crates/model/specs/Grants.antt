@@ -57,13 +57,21 @@ total (c ∷ cs) [] = 0
 total (c ∷ cs) (r ∷ rs) = elim (r .outcome) [ Refused n ↦ total cs rs | Stopped e ↦ c .cycles + total cs rs ]
 
 module _ {St : Type 0} where
+  -- Where a grant begins: it has written nothing yet.
+  abbrev pub beginning : Account St → RunState St
+  beginning a = record { state = a .state; spent = a .spent; written = [] }
+
+  -- The record and memory where a grant stopped.
+  abbrev pub accountAfter : Account St → Call → Stop St → Account St
+  accountAfter a c t = record { state = t .at .state; granted = a .granted + c .cycles; spent = t .at .spent }
+
   -- What an accepted grant hands back, from where it stopped: its values in front, "the rest keeps its contents".
   unfoldable pub handBack : Account St → Call → Stop St → Result St
   handBack a c t =
       let w = t .at .written in
       record {
         reply = record { outcome = Stopped (t .ending); count = length w; cycles = t .at .spent - a .spent };
-        account = record { state = t .at .state; granted = a .granted + c .cycles; spent = t .at .spent };
+        account = accountAfter a c t;
         slice = w ++ drop (length w) (c .slice);
       }
 
@@ -97,7 +105,7 @@ module _ (M : Machine) where
 
   -- "A grant adds its cycles to granted."
   unfoldable pub accept : Account St → Call → Result St
-  accept a c = handBack a c (run (a .granted + c .cycles) (length (c .slice)) (record { state = a .state; spent = a .spent; written = [] }))
+  accept a c = handBack a c (run (a .granted + c .cycles) (length (c .slice)) (beginning a))
 
   -- WHAT IS WORKED OUT, over the machine's run alone. After the first i instructions, of which the first m came before this grant:
   -- granted less their costs, and the room less the values that its own steps wrote.

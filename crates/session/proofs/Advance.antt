@@ -16,7 +16,7 @@ use Rattle.model.proofs.Lists as lists
 use Rattle.model.proofs.Loop.{run-keeps}
 use Rattle.model.proofs.Refusals.{grant-refused}
 use Rattle.model.specs.Calls.{Held, environmentFor, accountOf, Granted, granted, grantRefusal}
-use Rattle.model.specs.Grants.{Call, Account, RunState, Stop, advance, run, accept, handBack}
+use Rattle.model.specs.Grants.{Call, Account, Stop, beginning, advance, run, accept, handBack}
 use Rattle.model.specs.Instructions.{Operation, clearRegisters, clearCells, dumpRegisters, dumpCells, inputs, outputs, pushes, pops, skips, idles, writes, jumps, jumpsOn}
 use Rattle.model.specs.Machine.{Status, running, Look, stops, goes, look, lookAt}
 use Rattle.model.specs.Parameters.{Fit}
@@ -59,11 +59,8 @@ module _ (e : Environment) (a : Account State) (c : Call) (h : grantRefusal e a 
   abbrev given : ℕ
   given = a .granted + c .cycles
 
-  abbrev begin : RunState State
-  begin = record { state = a .state; spent = a .spent; written = [] }
-
   abbrev stop : Stop State
-  stop = run (Tak e) given (length (c .slice)) begin
+  stop = run (Tak e) given (length (c .slice)) (beginning a)
 
   fit : Fit (e .parameters)
   fit = grant-accepted e a c h .start .fit
@@ -80,15 +77,15 @@ module _ (e : Environment) (a : Account State) (c : Call) (h : grantRefusal e a 
     where
       go : (v : Look) → lookAt (Tak e) (a .state) (given - a .spent) (length (c .slice) - 0) ≡ v → a .spent < stop .at .spent
       go (stops x) q =
-          let s : stop ≡ record { ending = x; at = begin } = tak-run e fit given (length (c .slice)) begin ∙ rw q in
+          let s : stop ≡ record { ending = x; at = beginning a } = tak-run e fit given (length (c .slice)) (beginning a) ∙ rw q in
           let x-full : x ≡ OutputFull = sym (ap (λ (t : Stop State). t .ending) s) ∙ full in
           let crowded = look-full (stateStatus e (a .state)) _ _ (q ∙ ap stops x-full) in
           absurd (omega (arith, room, few e fit (a .state) sound, ltb-true (length (c .slice) - 0) (length (stepValues e (a .state))) crowded))
       go goes q =
-          let s : stop ≡ run (Tak e) given (length (c .slice)) (advance (Tak e) begin) = tak-run e fit given (length (c .slice)) begin ∙ rw q in
+          let s : stop ≡ run (Tak e) given (length (c .slice)) (advance (Tak e) (beginning a)) = tak-run e fit given (length (c .slice)) (beginning a) ∙ rw q in
           let some = priced e fit (a .state) (going (Tak e) (a .state) _ _ q .run) in
           let on =
-          run-keeps (Tak e) given (length (c .slice)) (λ b. a .spent + stepCost e (a .state) ≤ b .spent) (λ b k q. omega arith) (advance (Tak e) begin)
+          run-keeps (Tak e) given (length (c .slice)) (λ b. a .spent + stepCost e (a .state) ≤ b .spent) (λ b k q. omega arith) (advance (Tak e) (beginning a))
           (le-refl _)
           in
           rw s (omega (arith, on, some))
