@@ -1,11 +1,28 @@
-/* The TAK machine for callers from C: load, start, grant and the decimal writer over numbers and slices.
+/* The TAK counting machine for callers from C and C++.
  *
- * A slice is a pointer and then the count of its elements; of an empty slice the pointer is not used, but it must not be null.
- * What a call may write, slices and single numbers, must not overlap anything else that it is lent.
- * Every function returns 0, or the number of the refusal in document 01's list; TAK_RECORD_SIZE is the one number of this
- * interface's own. A refused call leaves every slice as it was. Every call writes the single numbers behind its pointers; a
- * refused one writes 0 to them, but for the index of a faulty line. The machine is in the caller's slices alone: the library
- * keeps nothing between calls.
+ * A machine runs a small program in slices of clock cycles. Its life is:
+ *
+ *   1. tak_load turns a program text into an image;
+ *   2. tak_start makes the fresh record and zeroes the memory;
+ *   3. tak_grant, as often as wanted, grants cycles, runs the program until an ending holds, and hands out the values that it output.
+ *
+ * "A run in slices", at the end of this file, shows how the calls go together. docs/CALLS.md has the same at more length, and
+ * docs/TCL.md the language of the programs.
+ *
+ * What a machine is made of: five parameters (K bits of a cell, N registers, S data cells of which the first B are addressed directly
+ * and the others are the stack, T instruction cells), the image (4*T words), N registers, S data cells, and the record. The caller
+ * owns all of it and lends it to each call. The library keeps nothing between calls and allocates nothing, so that machines that share
+ * no buffer may run at the same time. M means 2^(K-1); the values of a machine are -M to M - 1.
+ *
+ * What holds for every call:
+ *
+ *   - A slice is a pointer and the count of its elements (not of its bytes). With the count 0 the pointer is not used and may be null.
+ *     Other pointers, those to a single number among them, must be valid and aligned for their type.
+ *   - What a call may write (pointers without const) must not overlap anything else that the same call is lent.
+ *   - The result is 0, or the number of a refusal (TAK_REFUSED_...), and then the first check that did not pass is told.
+ *   - A refused call leaves every slice as it was. Every call writes the single numbers behind its pointers; a refused one writes 0
+ *     to them, but for the index of a faulty line.
+ *   - Each call needs a fixed amount of stack, at most TAK_..._STACK bytes on x86-64, its return address included.
  */
 #ifndef TAK_H
 #define TAK_H
@@ -17,46 +34,128 @@
 extern "C" {
 #endif
 
-/* Positions of a record's numbers. A grant is refused if one of them is not a number that its field can hold. */
+/* The version of this interface. */
+#define TAK_VERSION_MAJOR 0
+#define TAK_VERSION_MINOR 2
+#define TAK_VERSION_PATCH 0
+#define TAK_VERSION "0.2.0"
+
+/* Limits. */
+#define TAK_MIN_K 8                                /* K is TAK_MIN_K to TAK_MAX_K */
+#define TAK_MAX_K 30
+#define TAK_MAX_N 256                              /* N is 1 to TAK_MAX_N */
+#define TAK_MAX_S 4096                             /* S is 1 to TAK_MAX_S, and at most M - 1; B is 0 to S */
+#define TAK_MAX_T 4096                             /* T is 1 to TAK_MAX_T, and at most M - 1 */
+#define TAK_MAX_TEXT_LENGTH 65536                  /* bytes of a text */
+#define TAK_MAX_INPUT_LENGTH 65536                 /* bytes of an input */
+#define TAK_MAX_GRANT UINT64_C(1000000000)         /* cycles of one grant, 10^9 */
+#define TAK_MAX_GRANTED UINT64_C(1000000000000000) /* cycles of all grants of a machine together, 10^15 */
+
+/* Lengths of slices that the parameters do not fix. */
+#define TAK_RECORD_LENGTH 11  /* numbers of a record */
+#define TAK_DECIMAL_LENGTH 11 /* bytes that tak_decimal asks for */
+
+/* Stack that a call needs at most, in bytes. */
+#define TAK_LOAD_STACK 2048
+#define TAK_START_STACK 768
+#define TAK_GRANT_STACK 1536
+#define TAK_DECIMAL_STACK 128
+
+/* Positions of a record's numbers; a record is int64_t[TAK_RECORD_LENGTH]. Beside each what tak_grant accepts there. */
 enum {
-    TAK_K,       /* bits of a cell, 8..30 */
-    TAK_N,       /* registers, 1..256 */
-    TAK_S,       /* data cells, 1..4,096 */
-    TAK_B,       /* directly addressed cells, 0..S */
-    TAK_T,       /* instruction cells, 1..4,096 */
-    TAK_IAR,     /* the cell that runs next */
-    TAK_IRCR,    /* the return code of the last step */
-    TAK_SHR,     /* the top of the stack, B - 1 where it is empty */
-    TAK_PLACE,   /* the first byte of the input that is not read yet */
-    TAK_GRANTED, /* the cycles of all grants together */
-    TAK_SPENT,   /* the cycles spent */
-    TAK_RECORD   /* how many numbers a record has */
+    TAK_K,       /* bits of a cell */
+    TAK_N,       /* registers */
+    TAK_S,       /* data cells */
+    TAK_B,       /* directly addressed data cells */
+    TAK_T,       /* instruction cells; these five within the limits above */
+    TAK_IAR,     /* the cell that runs next: 0 to T */
+    TAK_IRCR,    /* the return code of the last step: 0 to 3, and the machine has failed if it is not 0 */
+    TAK_SHR,     /* the data cell on top of the stack: B - 1 (the stack is empty) to S - 1 */
+    TAK_PLACE,   /* the first byte of the input that is not read yet: 0 to the input's length */
+    TAK_GRANTED, /* the cycles of all accepted grants together: 0 to TAK_MAX_GRANTED */
+    TAK_SPENT    /* the cycles spent: 0 to granted; granted less spent is the leftover */
 };
 
-/* How an accepted grant ends; 0 where the grant was refused. */
-enum { TAK_FAILED = 1, TAK_ENDED = 2, TAK_PAUSED = 3, TAK_OUTPUT_FULL = 4 };
+/* How an accepted grant ended; 0 stands for a refused one. A grant looks before each step, in this order. */
+enum {
+    TAK_FAILED = 1,     /* the last step had a return code, which is in the record; the machine stands still for good */
+    TAK_ENDED = 2,      /* the program is at its end: at an empty cell, or behind the last one; it stands still for good */
+    TAK_PAUSED = 3,     /* the leftover does not pay for the next step; it goes on with a further grant */
+    TAK_OUTPUT_FULL = 4 /* the room left in the output slice does not hold the values of the next step; see tak_grant */
+};
 
-/* A record slice that has not TAK_RECORD numbers; the first check of tak_start and tak_grant. */
-#define TAK_RECORD_SIZE 100
+/* Refusals: what is wrong, and which calls say so. */
+enum {
+    TAK_REFUSED_PARAMETER_K = 1,
+        /* K is outside 8 to 30. tak_load, tak_start, tak_grant */
+    TAK_REFUSED_PARAMETER_N = 2,
+        /* N is outside 1 to 256. tak_load, tak_start, tak_grant */
+    TAK_REFUSED_PARAMETER_S = 3,
+        /* S is outside 1 to 4,096, or above M - 1. tak_load, tak_start, tak_grant */
+    TAK_REFUSED_PARAMETER_B = 4,
+        /* B is outside 0 to S. tak_load, tak_start, tak_grant */
+    TAK_REFUSED_PARAMETER_T = 5,
+        /* T is outside 1 to 4,096, or above M - 1. tak_load, tak_start, tak_grant */
+    TAK_REFUSED_IMAGE_LENGTH = 6,
+        /* the image slice does not have 4*T words. tak_load, tak_start, tak_grant */
+    TAK_REFUSED_TEXT_LENGTH = 7,
+        /* the text has more than 65,536 bytes. tak_load */
+    TAK_REFUSED_LINE_COUNT = 8,
+        /* the text has more than T lines. tak_load */
+    TAK_REFUSED_MEMORY_LENGTH = 9,
+        /* the register slice does not have N numbers, or the cell slice does not have S. tak_start, tak_grant */
+    TAK_REFUSED_IMAGE = 10,
+        /* the image is not one that some text loads as with these parameters. tak_start, tak_grant */
+    TAK_REFUSED_INSTRUCTION = 11,
+        /* the first word of the line is not an instruction. tak_load */
+    TAK_REFUSED_ARGUMENT_COUNT = 12,
+        /* the line does not have as many arguments as its instruction takes. tak_load */
+    TAK_REFUSED_ARGUMENT_FORM = 13,
+        /* an argument of the line is not an argument at all, or has a form that its place does not allow. tak_load */
+    TAK_REFUSED_ARGUMENT_RANGE = 14,
+        /* an argument of the line is a register not below N, a cell not below B, or a number outside -M to M - 1. tak_load */
+    TAK_REFUSED_RECORD = 15,
+        /* a number of the record, a register or a data cell is outside its limits. tak_grant */
+    TAK_REFUSED_INPUT_LENGTH = 16,
+        /* the input has more than 65,536 bytes. tak_grant */
+    TAK_REFUSED_CYCLES = 17,
+        /* the grant is over 10^9 cycles, or would take all grants together over 10^15. tak_grant */
+    TAK_REFUSED_DECIMAL_LENGTH = 18,
+        /* fewer than 11 bytes are lent for a decimal. tak_decimal */
+    TAK_REFUSED_RECORD_LENGTH = 100
+        /* the record slice has another length than a record. tak_start, tak_grant */
+};
 
-/* The bytes that the decimal writer asks for. */
-#define TAK_DECIMAL_BYTES 11
-
-/* Loads a text into an image of 4*T words. `lines` becomes the count of lines, `line` the index of the faulty line, from 0. */
+/* Loads a program text into an image of 4*T words, all of which it writes; the text need not end with a zero byte. `lines` becomes the
+ * count of lines. Of the faulty lines the first is told, and `line` becomes its index, counted from 0; it is 0 with other refusals.
+ * Checks, in order: 1 2 3 4 5 6 7 8 11 12 13 14. */
 uint32_t tak_load(uint32_t k, uint32_t n, uint32_t s, uint32_t b, uint32_t t,
                   const uint8_t *text, size_t text_length,
                   uint32_t *image, size_t image_length,
                   uint64_t *lines, uint64_t *line);
 
-/* Writes the fresh record and zeroes the N registers and S data cells. */
+/* Writes the fresh record and zeroes the N registers and S data cells. It is also how a machine begins anew.
+ * Checks, in order: 100 1 2 3 4 5 6 9 10. */
 uint32_t tak_start(uint32_t k, uint32_t n, uint32_t s, uint32_t b, uint32_t t,
                    const uint32_t *image, size_t image_length,
                    int32_t *registers, size_t registers_length,
                    int32_t *cells, size_t cells_length,
                    int64_t *record, size_t record_length);
 
-/* Grants cycles, and runs the program on the record, the registers and the data cells. `ending` becomes how it ended, `values` the
- * number of values at the start of `output`, behind which it keeps its contents, `spent` the cycles spent in this call. */
+/* Grants cycles, 0 to TAK_MAX_GRANT, and runs the program from where the record says until one of the four endings holds. The record,
+ * the registers and the data cells go from one call to the next as the call before left them, and image and input stay the same.
+ * `ending` becomes how it ended, `values` the number of values written at the start of `output`, behind which the slice keeps its
+ * contents, `spent` the cycles that this call spent. A failing step costs its price too.
+ *
+ * After TAK_OUTPUT_FULL take the values out and grant 0 with the same slice: the leftover of the earlier grant pays for the rest. OUT
+ * writes 1 value, DUMP_REG N and DUMP_DATA_MEM S, each whole or not at all, so that a slice shorter than N or S never takes that dump.
+ * TAK_OUTPUT_FULL with 0 values says that the whole slice is too short for the next step: a loop that only grants 0 again would
+ * never end. A slice of the greater of N and S values is always enough.
+ *
+ * How long a call takes follows from the leftover, cycles of earlier grants included, and not from `cycles` alone: who grants more
+ * after each full output, instead of 0, gathers a leftover of up to 10^15 cycles, which one later call then spends.
+ *
+ * Checks, in order: 100 1 2 3 4 5 6 9 10 15 16 17. */
 uint32_t tak_grant(int64_t *record, size_t record_length,
                    uint64_t cycles,
                    const uint32_t *image, size_t image_length,
@@ -66,8 +165,28 @@ uint32_t tak_grant(int64_t *record, size_t record_length,
                    int32_t *output, size_t output_length,
                    uint32_t *ending, uint64_t *values, uint64_t *spent);
 
-/* Writes a value in decimal at the start of `bytes`, TAK_DECIMAL_BYTES or more. `count` becomes the count of bytes written. */
+/* Writes a value in decimal at the start of `bytes`, a minus in front if it is negative, no zero byte behind it. `count` becomes the
+ * count of bytes written, at most TAK_DECIMAL_LENGTH; later bytes keep their contents. TAK_DECIMAL_LENGTH bytes must be lent for every
+ * value, short ones too.
+ * Checks, in order: 18. */
 uint32_t tak_decimal(int32_t value, uint8_t *bytes, size_t length, uint64_t *count);
+
+/* A run in slices of 1,000 cycles, through full outputs (callers/c/slices.c is this as a whole program):
+ *
+ *   uint32_t image[4 * T], ending;
+ *   int32_t registers[N], cells[S], output[N < S ? S : N];
+ *   int64_t record[TAK_RECORD_LENGTH];
+ *   uint64_t cycles = 1000, lines, line, values, spent;
+ *
+ *   if (tak_load(K, N, S, B, T, text, text_length, image, 4 * T, &lines, &line) != 0) ...
+ *   if (tak_start(K, N, S, B, T, image, 4 * T, registers, N, cells, S, record, TAK_RECORD_LENGTH) != 0) ...
+ *   do {
+ *       if (tak_grant(record, TAK_RECORD_LENGTH, cycles, image, 4 * T, input, input_length, registers, N, cells, S,
+ *                     output, sizeof output / sizeof *output, &ending, &values, &spent) != 0) ...
+ *       ... use output[0] to output[values - 1] ...
+ *       cycles = ending == TAK_OUTPUT_FULL ? 0 : 1000;
+ *   } while (ending == TAK_PAUSED || ending == TAK_OUTPUT_FULL);
+ */
 
 #ifdef __cplusplus
 }

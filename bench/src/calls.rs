@@ -21,11 +21,11 @@ pub const MODEL: Calls = Calls {
 
 pub const LIBRARY: Calls = Calls {
     load: |parameters, text, image| {
-        let tak::Loaded {
+        let tak::raw::Loaded {
             refusal,
             lines,
             line,
-        } = tak::load(parameters_of(parameters), text, image);
+        } = tak::raw::load(parameters_of(parameters), text, image);
         Loaded {
             refusal,
             lines,
@@ -33,15 +33,15 @@ pub const LIBRARY: Calls = Calls {
         }
     },
     start: |parameters, image, registers, cells, record| {
-        tak::start(parameters_of(parameters), image, registers, cells, record)
+        tak::raw::start(parameters_of(parameters), image, registers, cells, record)
     },
     grant: |record, cycles, image, input, registers, cells, output| {
-        let tak::Granted {
+        let tak::raw::Granted {
             refusal,
             ending,
             values,
             spent,
-        } = tak::grant(record, cycles, image, input, registers, cells, output);
+        } = tak::raw::grant(record, cycles, image, input, registers, cells, output);
         Granted {
             refusal,
             ending,
@@ -50,7 +50,7 @@ pub const LIBRARY: Calls = Calls {
         }
     },
     decimal: |value, bytes| {
-        let tak::Written { refusal, count } = tak::decimal(value, bytes);
+        let tak::raw::Written { refusal, count } = tak::raw::decimal(value, bytes);
         Written { refusal, count }
     },
 };

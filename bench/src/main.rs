@@ -9,7 +9,7 @@ use std::time::Duration;
 
 use calls::{Calls, LIBRARY, MODEL};
 use clock::cpu_time;
-use model::{Parameters, RECORD};
+use model::{Parameters, RECORD_LENGTH};
 
 /// Each row is run so often on each side; the shortest time counts.
 const REPETITIONS: usize = 5;
@@ -50,7 +50,7 @@ fn run_grants(calls: &Calls, grants: &Grants) -> Run {
     let mut image = vec![0; 4 * parameters.t as usize];
     let mut registers = vec![0; parameters.n as usize];
     let mut cells = vec![0; parameters.s as usize];
-    let mut record = [0; RECORD];
+    let mut record = [0; RECORD_LENGTH];
     let mut output = vec![0; grants.output];
     let mut left = Vec::new();
     let loaded = (calls.load)(parameters, grants.text.as_bytes(), &mut image);

@@ -13,7 +13,7 @@ enum { K = 9, N = 3, S = 5, B = 2, T = 7, OUTPUT = 4 };
 static uint32_t image[4 * T];
 static int32_t registers[N];
 static int32_t cells[S];
-static int64_t record[TAK_RECORD];
+static int64_t record[TAK_RECORD_LENGTH];
 
 static void load(const char *text)
 {
@@ -25,7 +25,7 @@ static void load(const char *text)
 
 static void start(void)
 {
-    uint32_t refusal = tak_start(K, N, S, B, T, image, 4 * T, registers, N, cells, S, record, TAK_RECORD);
+    uint32_t refusal = tak_start(K, N, S, B, T, image, 4 * T, registers, N, cells, S, record, TAK_RECORD_LENGTH);
 
     printf("start: refusal %" PRIu32 ", K %" PRId64 ", N %" PRId64 ", S %" PRId64 ", B %" PRId64 ", T %" PRId64 ", SHR %" PRId64 "\n",
            refusal, record[TAK_K], record[TAK_N], record[TAK_S], record[TAK_B], record[TAK_T], record[TAK_SHR]);
@@ -34,7 +34,7 @@ static void start(void)
 /* The value as the decimal writer spells it. */
 static void print_value(int32_t value)
 {
-    uint8_t bytes[TAK_DECIMAL_BYTES];
+    uint8_t bytes[TAK_DECIMAL_LENGTH];
     uint64_t count;
 
     if (tak_decimal(value, bytes, sizeof bytes, &count) == 0)
@@ -57,14 +57,13 @@ static const char *ending_name(uint32_t ending)
     }
 }
 
-/* The program reads no input, so that the input slice is empty: its pointer is not used, but it is not null either. */
+/* The program reads no input, so that the input slice is empty and its pointer may be null. */
 static void grant(uint64_t cycles)
 {
-    static const uint8_t input[1];
     int32_t output[OUTPUT];
     uint32_t ending;
     uint64_t values, spent, i;
-    uint32_t refusal = tak_grant(record, TAK_RECORD, cycles, image, 4 * T, input, 0, registers, N, cells, S, output, OUTPUT,
+    uint32_t refusal = tak_grant(record, TAK_RECORD_LENGTH, cycles, image, 4 * T, NULL, 0, registers, N, cells, S, output, OUTPUT,
                                  &ending, &values, &spent);
 
     printf("grant of %" PRIu64 ": refusal %" PRIu32 ", %s, %" PRIu64 " values, %" PRIu64 " cycles\n", cycles, refusal,
@@ -76,7 +75,7 @@ static void grant(uint64_t cycles)
 int main(void)
 {
     uint32_t image_before[4 * T];
-    int64_t record_before[TAK_RECORD];
+    int64_t record_before[TAK_RECORD_LENGTH];
 
     load("SET R0 13\nSET R2 -10\nDIV R0 R2 R2\nOUT R2\n");
     start();

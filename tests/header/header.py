@@ -1,5 +1,5 @@
 """Compares the functions that the crate tak exports with their declarations: names, order, types, constness, lengths of slices, result; and the
-header's constants with those of the Rust package, by which tests/model reads records and endings.
+header's constants with those of the Rust package, by which tests/model reads records and endings, and with the source's.
 
 A function in one form: its name, its result, and of each parameter the name, what it is ("" a number, "in" a pointer that the call reads
 through, "out" one that it may write through) and the type of the number. A slice is two parameters, a pointer and its length.
@@ -9,12 +9,25 @@ import re
 import sys
 
 SOURCES = "crates/tak/src/*.rt"
+LIMITS = "crates/model/src/lib.rt"
 HEADER = "include/tak.h"
-PACKAGE = "callers/rust/src/lib.rs"
+PACKAGE = "callers/rust/src/raw.rs"
 RUST = ("callers/**/*.rs", "tests/**/*.rs", "bench/**/*.rs")
 
-# The one name that differs: contracts have another use for the word `record`.
+# The one parameter whose name differs: contracts have another use for the word `record`.
 RENAMED = {"fields": "record"}
+# The constants of the source whose names differ: the limits of `Record`.
+LIMIT_NAMES = {
+    "MIN_BITS": "MIN_K",
+    "MAX_BITS": "MAX_K",
+    "MAX_REGISTERS": "MAX_N",
+    "MAX_CELLS": "MAX_S",
+    "MAX_INSTRUCTIONS": "MAX_T",
+    "MAX_TEXT": "MAX_TEXT_LENGTH",
+    "MAX_INPUT": "MAX_INPUT_LENGTH",
+    "MAX_GRANT": "MAX_GRANT",
+    "MAX_GRANTED": "MAX_GRANTED",
+}
 C_TYPES = {f"{sign}int{bits}_t": f"{letter}{bits}" for sign, letter in (("u", "u"), ("", "i")) for bits in (8, 16, 32, 64)}
 C_TYPES |= {"size_t": "usize", "void": "nothing"}
 
@@ -90,9 +103,10 @@ def of_rust(text):
 
 
 def header_constants(text):
-    """The constants that a C header defines, without their TAK_."""
+    """The constants that a C header defines, without their TAK_ and without the version."""
     text = re.sub(r"/\*.*?\*/", "", text, flags=re.S)
-    constants = {name: int(value) for name, value in re.findall(r"^#define TAK_(\w+) (\d+)$", text, re.M)}
+    defined = re.findall(r"^#define TAK_(\w+) (?:UINT64_C\()?(\d+)\)? *$", text, re.M)
+    constants = {name: int(value) for name, value in defined if not name.startswith("VERSION_")}
     for body in re.findall(r"enum \{(.*?)\}", text, re.S):
         following = 0
         for name, value in re.findall(r"TAK_(\w+)(?: = (\d+))?", body):
@@ -103,14 +117,30 @@ def header_constants(text):
 
 
 def rust_constants(text):
-    return {name: int(value) for name, value in re.findall(r"pub const (\w+): \w+ = (\d+);", text)}
+    """The constants of the Rust package under the header's names: those of its module `refusal` begin with REFUSED_ there."""
+    constants, prefix = {}, ""
+    for module, name, value in re.findall(r"^pub mod (\w+) \{$|^ *pub const (\w+): \w+ = (\d+);$|^\}$", text, re.M):
+        if name:
+            constants[prefix + name] = int(value)
+        else:
+            prefix = "REFUSED_" if module == "refusal" else ""
+    return constants
 
 
-def other_constants(header, package):
-    """A line for each constant that is not the same in both."""
+def source_constants(source, limits):
+    """The constants of the crate tak (positions of a record, its length, the refusal of its own) and the limits, under the header's names."""
+    numbers = [
+        {name: int(value.replace("_", "")) for name, value in re.findall(r"^ *(?:pub )?const (\w+): \w+ = ([\d_]+);$", text, re.M)}
+        for text in (source, limits)
+    ]
+    return numbers[0] | {name: numbers[1][limit] for limit, name in LIMIT_NAMES.items()}
+
+
+def other_constants(header, package, source):
+    """A line for each constant that is not the same in the header and the Rust package, or in the header and the source."""
     here, there = header_constants(header), rust_constants(package)
-    names = sorted(here.keys() | there.keys())
-    return [f"TAK_{name} is {here.get(name)}, in Rust {there.get(name)}" for name in names if here.get(name) != there.get(name)]
+    wrong = [f"TAK_{name} is {here.get(name)}, in Rust {there.get(name)}" for name in sorted(here.keys() | there.keys()) if here.get(name) != there.get(name)]
+    return wrong + [f"TAK_{name} is {here.get(name)}, in the source {value}" for name, value in source.items() if here.get(name) != value]
 
 
 def differences(exported, declared):
@@ -189,8 +219,13 @@ def altered_constants(text):
     yield "IAR and IRCR exchanged", text.replace("TAK_IAR,", "TAK_#,").replace("TAK_IRCR,", "TAK_IAR,").replace("TAK_#,", "TAK_IRCR,")
     yield "a field missing", re.sub(r"    TAK_PLACE,.*\n", "", text)
     yield "another ending", replaced(text, "TAK_PAUSED = 3", "TAK_PAUSED = 4")
-    yield "another size", replaced(text, "TAK_DECIMAL_BYTES 11", "TAK_DECIMAL_BYTES 10")
-    yield "a constant missing", re.sub(r"#define TAK_RECORD_SIZE.*\n", "", text)
+    yield "another length", replaced(text, "TAK_DECIMAL_LENGTH 11", "TAK_DECIMAL_LENGTH 10")
+    yield "another limit", replaced(text, "TAK_MAX_GRANT UINT64_C(1000000000)", "TAK_MAX_GRANT UINT64_C(100000000)")
+    yield "another bound of a stack", replaced(text, "TAK_GRANT_STACK 1536", "TAK_GRANT_STACK 1535")
+    yield "another refusal", replaced(text, "TAK_REFUSED_CYCLES = 17", "TAK_REFUSED_CYCLES = 16")
+    yield "a length and its refusal exchanged", replaced(text, "TAK_RECORD_LENGTH 11", "TAK_RECORD_LENGTH 100")
+    yield "a constant missing", re.sub(r"#define TAK_RECORD_LENGTH.*\n", "", text)
+    yield "a refusal missing", re.sub(r"    TAK_REFUSED_IMAGE = 10,\n", "", text)
 
 
 def main():
@@ -215,10 +250,13 @@ def main():
     count([] if in_rust else ["no Rust file declares the functions"])
     for path, functions in in_rust.items():
         count([f"{path}: {line}" for line in differences(exported, functions)])
-    count([f"{HEADER}: {line}" for line in other_constants(header, rust[PACKAGE])])
+    numbers = source_constants(source, read(LIMITS))
+    count([f"{HEADER}: {line}" for line in other_constants(header, rust[PACKAGE], numbers)])
     if not wrong:  # each alteration makes something wrong of what is right
         for what, text in altered_constants(header):
-            found(what, other_constants(text, rust[PACKAGE]))
+            found(what, other_constants(text, rust[PACKAGE], {}))
+        for name, value in numbers.items():
+            found(f"{name} of the source, one more", other_constants(header, rust[PACKAGE], numbers | {name: value + 1}))
         for what, text in altered_headers(header):
             found(what, differences(exported, of_header(text)))
         for path in in_rust:

@@ -62,7 +62,7 @@ startReplied x fields =
       slices = record { fields = recordAfter (x .reply .refusal) (x .reply .rec) fields; memory = x .memory };
     }
 
--- A record slice of another length is refused first, by TAK_RECORD_SIZE, 100; else document 01 answers.
+-- A record slice of another length is refused first, by TAK_REFUSED_RECORD_LENGTH, 100; else document 01 answers.
 unfoldable pub takStart : Environment → Slices → StartCall
 takStart e s =
     cond (eqb (length (s .fields)) recordLength) (startReplied (started e (s .memory)) (s .fields)) (record { number = 100; slices = s })

@@ -9,7 +9,7 @@ ghost use Rattle.model.specs.Step.{environmentOf};
 ghost use Rattle.model.specs.Load.{loadNumbers};
 ghost use Rattle.tak.specs.Calls.{asSlices, parametersOf, endingNumber, outcomeEnding, takLoad, takStart, takGrant, takDecimal};
 ghost use Rattle.tak.specs.Records.{recordFrom};
-use crate::records::RECORD;
+use crate::records::RECORD_LENGTH;
 use crate::records::hand_back;
 use crate::records::record_from;
 use loader::load;
@@ -21,8 +21,8 @@ use model::Outcome;
 use model::Parameters;
 use writer::decimal::write_decimal;
 
-// A record slice of another length, TAK_RECORD_SIZE: the one number of a refusal that document 01 does not have.
-const RECORD_SIZE: u32 = 100;
+// A record slice of another length, TAK_REFUSED_RECORD_LENGTH: the one number of a refusal that document 01 does not have.
+const REFUSED_RECORD_LENGTH: u32 = 100;
 
 // The numbers that load reports.
 struct LoadNumbers {
@@ -128,8 +128,8 @@ pub extern "C" fn tak_start(
         (asSlices (now (fields .entry)) (now (registers .entry)) (now (cells .entry)))
         ≡ record { number = r; slices = asSlices (now (fields .exit)) (now (registers .exit)) (now (cells .exit)) } ⌝ }
 {
-    if fields.len() != RECORD {
-        return RECORD_SIZE;
+    if fields.len() != RECORD_LENGTH {
+        return REFUSED_RECORD_LENGTH;
     }
     let p = Parameters { k, n, s, b, t };
     let reply = start(p, image, registers, cells);
@@ -158,9 +158,9 @@ fn grant_to(
           output = now (output .exit);
         } ⌝ }
 {
-    if fields.len() != RECORD {
+    if fields.len() != RECORD_LENGTH {
         return GrantNumbers {
-            refusal: RECORD_SIZE,
+            refusal: REFUSED_RECORD_LENGTH,
             ending: 0,
             values: 0,
             spent: 0,

@@ -28,7 +28,7 @@ const GRANTED: usize = 9;
 
 const SPENT: usize = 10;
 
-pub const RECORD: usize = 11;
+pub const RECORD_LENGTH: usize = 11;
 
 // The number where 32 bits hold it, else their greatest, which no check lets pass.
 fn held_short(z: i64) -> u32

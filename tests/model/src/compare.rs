@@ -3,7 +3,7 @@
 use std::fmt::Debug;
 
 use model::record::{GRANTED, SPENT};
-use model::{MAX_GRANT, MAX_GRANTED, RECORD, ending};
+use model::{MAX_GRANT, MAX_GRANTED, RECORD_LENGTH, ending};
 
 use crate::case::{Case, Edit};
 use crate::cover::Cover;
@@ -151,7 +151,7 @@ pub fn compare(
         input: Lent::of(&case.input, 0xA5),
         registers: Lent::new(case.parameters.n as usize, random, |old| old as i32),
         cells: Lent::new(case.parameters.s as usize, random, |old| old as i32),
-        record: Lent::new(RECORD, random, |old| old as i64),
+        record: Lent::new(RECORD_LENGTH, random, |old| old as i64),
     };
     for (index, start) in case.starts.iter().enumerate() {
         let saved = start.restore.then(|| state.clone());
@@ -253,7 +253,7 @@ pub fn compare(
 /// Whether a grant would be accepted with more than `LONGEST` cycles to spend and would not stop before.
 fn too_long(state: &State, cycles: u64, output_length: usize) -> bool {
     let record = state.record.get();
-    if record.len() != RECORD || cycles > MAX_GRANT {
+    if record.len() != RECORD_LENGTH || cycles > MAX_GRANT {
         return false;
     }
     let (granted, spent) = (record[GRANTED], record[SPENT]);

@@ -5,7 +5,7 @@ use std::collections::BTreeMap;
 use model::grant::grant_watched;
 use model::instructions::*;
 use model::record;
-use model::{Granted, Loaded, MAX_GRANT, MAX_GRANTED, Parameters, RECORD, Written, ending};
+use model::{Granted, Loaded, MAX_GRANT, MAX_GRANTED, Parameters, RECORD_LENGTH, Written, ending};
 
 pub struct Cover {
     counting: bool,
@@ -83,7 +83,7 @@ impl Cover {
         cells: &[i32],
         output_length: usize,
     ) {
-        if !self.counting || record.len() != RECORD {
+        if !self.counting || record.len() != RECORD_LENGTH {
             return;
         }
         let parameters = Parameters::checked(record[0], record[1], record[2], record[3], record[4]);

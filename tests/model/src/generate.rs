@@ -3,7 +3,7 @@
 use model::instructions::*;
 use model::instructions::{Argument, Form, INSTRUCTIONS, encode};
 use model::record;
-use model::{Parameters, RECORD, ending};
+use model::{Parameters, RECORD_LENGTH, ending};
 
 use crate::case::{Case, Edit, Grant, Load, Start};
 use crate::random::Random;
@@ -300,7 +300,7 @@ fn failing(program: &[Line], parameters: Parameters) -> Option<usize> {
     }
     let mut registers = vec![0; parameters.n as usize];
     let mut cells = vec![0; parameters.s as usize];
-    let mut state = [0; RECORD];
+    let mut state = [0; RECORD_LENGTH];
     let mut output = vec![0; 2 * (registers.len() + cells.len()) + 20];
     model::start(parameters, &image, &mut registers, &mut cells, &mut state);
     let input = b"1 0 -1 2 3 4 5 6 7 0 0 0 0 0 0 0";
@@ -773,7 +773,7 @@ fn with_calls(
                 0 => Edit::ImageLength(odd_length(random, image_length)),
                 1 => Edit::RegistersLength(odd_length(random, parameters.n as usize)),
                 2 => Edit::CellsLength(odd_length(random, parameters.s as usize)),
-                3 if random.chance(40) => Edit::RecordLength(odd_length(random, RECORD)),
+                3 if random.chance(40) => Edit::RecordLength(odd_length(random, RECORD_LENGTH)),
                 _ => image_edit(random, parameters, program.len()),
             };
             start.edits.push(edit);
@@ -923,7 +923,7 @@ fn record_edit(random: &mut Random, case: &Case) -> Edit {
     let far = 1i64 << 32;
     let length = case.input.len() as i64;
     let all = 1_000_000_000_000_000;
-    let field = random.index(RECORD);
+    let field = random.index(RECORD_LENGTH);
     let usual: &[i64] = match field {
         record::K => &[7, 8, 30, 31, k - 1, k + 1, k + far, k - far, k + 256],
         record::N => &[0, 1, 256, 257, n - 1, n + 1, n + far, n - far, n + 65_536],
@@ -1013,7 +1013,7 @@ fn grant(random: &mut Random, case: &Case, lines: usize) -> Grant {
                 0..10 => record_edit(random, case),
                 10..14 => memory_edit(random, parameters),
                 14..19 => image_edit(random, parameters, lines),
-                19 => Edit::RecordLength(odd_length(random, RECORD)),
+                19 => Edit::RecordLength(odd_length(random, RECORD_LENGTH)),
                 20 => Edit::RegistersLength(odd_length(random, parameters.n as usize)),
                 21 => Edit::CellsLength(odd_length(random, parameters.s as usize)),
                 22 => Edit::ImageLength(odd_length(random, image)),

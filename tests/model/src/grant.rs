@@ -3,7 +3,9 @@
 use crate::instructions::*;
 use crate::load::number as read_number;
 use crate::start::check;
-use crate::{MAX_BYTES, MAX_GRANT, MAX_GRANTED, Parameters, RECORD, RECORD_SIZE, ending, record};
+use crate::{
+    MAX_BYTES, MAX_GRANT, MAX_GRANTED, Parameters, RECORD_LENGTH, ending, record, refusal,
+};
 
 /// The reply of `grant`; `refusal` is 0 where the grant was accepted.
 #[derive(Clone, Copy, Debug, PartialEq, Eq)]
@@ -97,8 +99,8 @@ fn accept(
     registers: &[i32],
     cells: &[i32],
 ) -> Result<Parameters, u32> {
-    if record.len() != RECORD {
-        return Err(RECORD_SIZE);
+    if record.len() != RECORD_LENGTH {
+        return Err(refusal::RECORD_LENGTH);
     }
     let parameters = Parameters::checked(
         record[record::K],

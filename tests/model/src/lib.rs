@@ -13,7 +13,7 @@ pub use decimal::{Written, decimal};
 pub use grant::{Granted, grant};
 pub use load::{Loaded, load};
 pub use start::start;
-pub use tak::{RECORD, RECORD_SIZE, ending, record};
+pub use tak::raw::{RECORD_LENGTH, ending, record, refusal};
 
 /// Texts and inputs may have this many bytes.
 pub const MAX_BYTES: usize = 65_536;

@@ -39,11 +39,11 @@ fn parameters_of(parameters: Parameters) -> tak::Parameters {
 
 impl Machine for Library {
     fn load(&self, parameters: Parameters, text: &[u8], image: &mut [u32]) -> Loaded {
-        let tak::Loaded {
+        let tak::raw::Loaded {
             refusal,
             lines,
             line,
-        } = tak::load(parameters_of(parameters), text, image);
+        } = tak::raw::load(parameters_of(parameters), text, image);
         Loaded {
             refusal,
             lines,
@@ -59,7 +59,7 @@ impl Machine for Library {
         cells: &mut [i32],
         record: &mut [i64],
     ) -> u32 {
-        tak::start(parameters_of(parameters), image, registers, cells, record)
+        tak::raw::start(parameters_of(parameters), image, registers, cells, record)
     }
 
     fn grant(
@@ -72,12 +72,12 @@ impl Machine for Library {
         cells: &mut [i32],
         output: &mut [i32],
     ) -> Granted {
-        let tak::Granted {
+        let tak::raw::Granted {
             refusal,
             ending,
             values,
             spent,
-        } = tak::grant(record, cycles, image, input, registers, cells, output);
+        } = tak::raw::grant(record, cycles, image, input, registers, cells, output);
         Granted {
             refusal,
             ending,
@@ -87,7 +87,7 @@ impl Machine for Library {
     }
 
     fn decimal(&self, value: i32, bytes: &mut [u8]) -> Written {
-        let tak::Written { refusal, count } = tak::decimal(value, bytes);
+        let tak::raw::Written { refusal, count } = tak::raw::decimal(value, bytes);
         Written { refusal, count }
     }
 }

@@ -1,6 +1,6 @@
 //! The marked runs of document 01, with the answers that it states: K = 8, N = 2, S = 4, B = 2, T = 6.
 
-use model::{Parameters, RECORD, ending, record};
+use model::{Parameters, RECORD_LENGTH, ending, record};
 
 use crate::machine::Machine;
 
@@ -18,7 +18,7 @@ struct After {
     image: [u32; 24],
     registers: [i32; 2],
     cells: [i32; 4],
-    record: [i64; RECORD],
+    record: [i64; RECORD_LENGTH],
     output: Vec<i32>,
 }
 
@@ -28,7 +28,7 @@ fn run(machine: &dyn Machine, text: &str) -> After {
         image: [0; 24],
         registers: [0; 2],
         cells: [0; 4],
-        record: [0; RECORD],
+        record: [0; RECORD_LENGTH],
         output: vec![0; 16],
     };
     after.refusal = machine

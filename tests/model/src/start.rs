@@ -1,7 +1,7 @@
 //! The fresh machine.
 
 use crate::image::yielded;
-use crate::{Parameters, RECORD, RECORD_SIZE};
+use crate::{Parameters, RECORD_LENGTH, refusal};
 
 /// Writes the fresh record and zeroes registers and data cells; gives 0 or the refusal.
 pub fn start(
@@ -11,8 +11,8 @@ pub fn start(
     cells: &mut [i32],
     record: &mut [i64],
 ) -> u32 {
-    if record.len() != RECORD {
-        return RECORD_SIZE;
+    if record.len() != RECORD_LENGTH {
+        return refusal::RECORD_LENGTH;
     }
     let checked = parameters
         .check()

@@ -1,7 +1,7 @@
 //! Sweeps: small calls over whole sets of values, words and lines, one after the other.
 
 use model::instructions::*;
-use model::{Parameters, RECORD};
+use model::{Parameters, RECORD_LENGTH};
 
 use crate::machine::Machine;
 
@@ -162,7 +162,8 @@ fn images(first: &dyn Machine, second: &dyn Machine, head: u32) -> Option<String
                     [NOP, 0, 0, 0, head, *a, *b, *c],
                 ] {
                     let run = |machine: &dyn Machine| {
-                        let (mut registers, mut cells, mut record) = ([9; 2], [9; 4], [9; RECORD]);
+                        let (mut registers, mut cells, mut record) =
+                            ([9; 2], [9; 4], [9; RECORD_LENGTH]);
                         let refusal = machine.start(
                             parameters,
                             &image,

@@ -5,7 +5,7 @@ use model::instructions::*;
 use model::record::{
     GRANTED, IAR as RECORD_IAR, IRCR as RECORD_IRCR, PLACE, SHR as RECORD_SHR, SPENT,
 };
-use model::{Granted, Loaded, Parameters, RECORD, Written, ending};
+use model::{Granted, Loaded, Parameters, RECORD_LENGTH, Written, ending};
 
 use crate::machine::{Machine, Model};
 
@@ -158,7 +158,7 @@ impl Machine for Wrong {
                 reply.ending = ending::PAUSED;
             }
             Fault::ValueBehindOutput if accepted && written < output.len() => output[written] = 0,
-            Fault::RefusedGrantAddsCycles if !accepted && record.len() == RECORD => {
+            Fault::RefusedGrantAddsCycles if !accepted && record.len() == RECORD_LENGTH => {
                 record[GRANTED] = record[GRANTED].wrapping_add(cycles as i64);
             }
             Fault::RefusedGrantNamesEnding if !accepted => reply.ending = ending::FAILED,
