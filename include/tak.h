@@ -22,7 +22,7 @@
  *   - The result is 0, or the number of a refusal (TAK_REFUSED_...), and then the first check that did not pass is told.
  *   - A refused call leaves every slice as it was. Every call writes the single numbers behind its pointers; a refused one writes 0
  *     to them, but for the index of a faulty line.
- *   - Each call needs a fixed amount of stack, at most TAK_..._STACK bytes on x86-64, its return address included.
+ *   - A call takes at most TAK_..._STACK bytes of stack on x86-64, its arguments and return address included.
  */
 #ifndef TAK_H
 #define TAK_H
