@@ -19,12 +19,14 @@ INSTALL = install
 # The header has the version.
 VERSION := $(shell sed -n 's/^.define TAK_VERSION "\(.*\)"$$/\1/p' include/tak.h)
 CRATES := crates.txt $(shell find crates -name '*.rt' -o -name '*.antt')
-DOCUMENTS = docs/CALLS.md docs/TCL.md CHANGELOG.md
+DOCUMENTS = docs/CALLS.md docs/TCL.md CHANGELOG.md callers/c/count.c callers/c/slices.c
 PACKAGE = callers/rust
 PACKAGE_FILES = Cargo.toml Cargo.lock build.rs $(patsubst $(PACKAGE)/%,%,$(wildcard $(PACKAGE)/src/*.rs $(PACKAGE)/examples/*.rs))
 INSTALLED = "$(DESTDIR)$(BINDIR)/takrun" "$(DESTDIR)$(INCLUDEDIR)/tak.h" "$(DESTDIR)$(LIBDIR)/libtak.a" \
     "$(DESTDIR)$(PKGCONFIGDIR)/tak.pc" "$(DESTDIR)$(MANDIR)/man1/takrun.1"
-FILLED_IN = sed -e 's|@VERSION@|$(VERSION)|g' -e 's|@PREFIX@|$(PREFIX)|g' -e 's|@INCLUDEDIR@|$(INCLUDEDIR)|g' -e 's|@LIBDIR@|$(LIBDIR)|g'
+# Folders below PREFIX are named by it, so that tak.pc stays true if the tree moves and another prefix is given.
+FILLED_IN = sed -e 's|@VERSION@|$(VERSION)|g' -e 's|@PREFIX@|$(PREFIX)|g' \
+    -e 's|@INCLUDEDIR@|$(subst $(PREFIX)/,$${prefix}/,$(INCLUDEDIR))|g' -e 's|@LIBDIR@|$(subst $(PREFIX)/,$${prefix}/,$(LIBDIR))|g'
 
 .PHONY: all library program check install uninstall bench clean
 # rt keeps its results in one folder.

@@ -1,4 +1,4 @@
-/* The TAK counting machine for callers from C and C++.
+/* The TAK counting machine for callers from C (C99 or newer) and C++.
  *
  * A machine runs a small program in slices of clock cycles. Its life is:
  *
@@ -6,23 +6,28 @@
  *   2. tak_start makes the fresh record and zeroes the memory;
  *   3. tak_grant, as often as wanted, grants cycles, runs the program until an ending holds, and hands out the values that it output.
  *
- * "A run in slices", at the end of this file, shows how the calls go together. docs/CALLS.md has the same at more length, and
- * docs/TCL.md the language of the programs.
+ * The end of this file has a whole program. CALLS.md says all this at more length, and TCL.md has the language of the machine's programs;
+ * both stand in docs of the repository and are installed in share/doc/tak, with further programs.
  *
  * What a machine is made of: five parameters (K bits of a cell, N registers, S data cells of which the first B are addressed directly
  * and the others are the stack, T instruction cells), the image (4*T words), N registers, S data cells, and the record. The caller
- * owns all of it and lends it to each call. The library keeps nothing between calls and allocates nothing, so that machines that share
- * no buffer may run at the same time. M means 2^(K-1); the values of a machine are -M to M - 1.
+ * owns all of it and lends it to each call; the library keeps nothing between calls and allocates nothing. M means 2^(K-1); the values
+ * of a machine are -M to M - 1.
  *
  * What holds for every call:
  *
- *   - A slice is a pointer and the count of its elements (not of its bytes). With the count 0 the pointer is not used and may be null.
- *     Other pointers, those to a single number among them, must be valid and aligned for their type.
- *   - What a call may write (pointers without const) must not overlap anything else that the same call is lent.
- *   - The result is 0, or the number of a refusal (TAK_REFUSED_...), and then the first check that did not pass is told.
+ *   - A slice is a pointer and the count of its elements, not of its bytes: no call can see that `output`, `text` or `input` is shorter
+ *     than the count beside it. With the count 0 the pointer is not used and may be null. Other pointers, those to a single number
+ *     among them, must be valid and aligned for their type.
+ *   - What a call may write (pointers without const) must not overlap anything else that the same call is lent. Calls may run at the
+ *     same time if none writes what another is lent; several machines may share an image and an input.
+ *   - The result is 0, or the number of a refusal (TAK_REFUSED_...): the first check that does not pass, in the order beside the call.
  *   - A refused call leaves every slice as it was. Every call writes the single numbers behind its pointers; a refused one writes 0
  *     to them, but for the index of a faulty line.
  *   - A call takes at most TAK_..._STACK bytes of stack on x86-64, its arguments and return address included.
+ *
+ * To store a machine, store record, registers and data cells, and image and input (tak_load makes the same image of the same text). It
+ * goes on from them at any time, in another process too; a grant of 0 tells how it stands.
  */
 #ifndef TAK_H
 #define TAK_H
@@ -61,14 +66,14 @@ extern "C" {
 #define TAK_GRANT_STACK 1536
 #define TAK_DECIMAL_STACK 128
 
-/* Positions of a record's numbers; a record is int64_t[TAK_RECORD_LENGTH]. Beside each what tak_grant accepts there. */
+/* Positions in a record, which is int64_t[TAK_RECORD_LENGTH]: record[TAK_N] is N. Beside each what tak_grant accepts there. */
 enum {
     TAK_K,       /* bits of a cell */
     TAK_N,       /* registers */
     TAK_S,       /* data cells */
     TAK_B,       /* directly addressed data cells */
     TAK_T,       /* instruction cells; these five within the limits above */
-    TAK_IAR,     /* the cell that runs next: 0 to T */
+    TAK_IAR,     /* the cell that runs next, or that has failed: 0 to T; it is the index of its line in the text, from 0 */
     TAK_IRCR,    /* the return code of the last step: 0 to 3, and the machine has failed if it is not 0 */
     TAK_SHR,     /* the data cell on top of the stack: B - 1 (the stack is empty) to S - 1 */
     TAK_PLACE,   /* the first byte of the input that is not read yet: 0 to the input's length */
@@ -76,13 +81,19 @@ enum {
     TAK_SPENT    /* the cycles spent: 0 to granted; granted less spent is the leftover */
 };
 
-/* How an accepted grant ended; 0 stands for a refused one. A grant looks before each step, in this order. */
+/* How an accepted grant ended; 0 stands for a refused one. A grant looks before each step, in this order. A machine that has failed or
+ * ended stands still for good: further grants are accepted, count in granted, and end alike with 0 values and 0 cycles. */
 enum {
-    TAK_FAILED = 1,     /* the last step had a return code, which is in the record; the machine stands still for good */
-    TAK_ENDED = 2,      /* the program is at its end: at an empty cell, or behind the last one; it stands still for good */
-    TAK_PAUSED = 3,     /* the leftover does not pay for the next step; it goes on with a further grant */
+    TAK_FAILED = 1,     /* the last step had a return code other than 0, which is in the record */
+    TAK_ENDED = 2,      /* the next cell is empty, since no line of the text fills it (a line without words does), or IAR is T */
+    TAK_PAUSED = 3,     /* the leftover does not pay for the next step; a further grant goes on */
     TAK_OUTPUT_FULL = 4 /* the room left in the output slice does not hold the values of the next step; see tak_grant */
 };
+
+/* Return codes in the record. Arithmetic: 1, the result is outside -M to M - 1; 2, the divisor is 0. IN: 1, the next word of the input
+ * is not a number; 2, it is outside -M to M - 1; 3, nothing is left. PUSH: 1, the stack is full. POP: 1, it is empty. AND to NOR and
+ * NOT: 1, a value is not a truth value (-1 or 0). Jumps: 1, the target is not 0 to T - 1; JMPT and JMPF: 2, not a truth value. SKIP: 1,
+ * there is no cell to go to. */
 
 /* Refusals: what is wrong, and which calls say so. */
 enum {
@@ -126,15 +137,18 @@ enum {
         /* the record slice has another length than a record. tak_start, tak_grant */
 };
 
-/* Loads a program text into an image of 4*T words, all of which it writes; the text need not end with a zero byte. `lines` becomes the
- * count of lines. Of the faulty lines the first is told, and `line` becomes its index, counted from 0; it is 0 with other refusals.
- * Checks, in order: 1 2 3 4 5 6 7 8 11 12 13 14. */
+/* Loads a program text into an image of 4*T words, all of which it writes. The text is exactly `text_length` bytes: a zero byte is a byte
+ * like any other, so that of a string literal strlen counts. `lines` becomes the count of lines, `line` the index of the faulty line,
+ * from 0, and 0 where no line is faulty.
+ * Checks, in order: 1 2 3 4 5 6 7 8 11 12 13 14; 11 to 14 are about the first faulty line, first 11, then 12, then each argument from
+ * the left, 13 before 14. */
 uint32_t tak_load(uint32_t k, uint32_t n, uint32_t s, uint32_t b, uint32_t t,
                   const uint8_t *text, size_t text_length,
                   uint32_t *image, size_t image_length,
                   uint64_t *lines, uint64_t *line);
 
-/* Writes the fresh record and zeroes the N registers and S data cells. It is also how a machine begins anew.
+/* Writes the fresh record (the parameters, SHR = B - 1, all else 0) and zeroes the N registers and S data cells. It is also how a machine
+ * begins anew.
  * Checks, in order: 100 1 2 3 4 5 6 9 10. */
 uint32_t tak_start(uint32_t k, uint32_t n, uint32_t s, uint32_t b, uint32_t t,
                    const uint32_t *image, size_t image_length,
@@ -142,18 +156,23 @@ uint32_t tak_start(uint32_t k, uint32_t n, uint32_t s, uint32_t b, uint32_t t,
                    int32_t *cells, size_t cells_length,
                    int64_t *record, size_t record_length);
 
-/* Grants cycles, 0 to TAK_MAX_GRANT, and runs the program from where the record says until one of the four endings holds. The record,
- * the registers and the data cells go from one call to the next as the call before left them, and image and input stay the same.
- * `ending` becomes how it ended, `values` the number of values written at the start of `output`, behind which the slice keeps its
- * contents, `spent` the cycles that this call spent. A failing step costs its price too.
+/* Adds cycles, 0 to TAK_MAX_GRANT, to granted and runs the program from where the record says until one of the four endings holds. The
+ * record, the registers and the data cells go from one call to the next as the call before left them. Image and input stay the same
+ * in every call of a run; nothing checks this, and with others the machine goes on with those. The input has decimal numbers between
+ * blanks, tabs or line ends, and like the text it is exactly `input_length` bytes; an IN that finds nothing left fails for good.
  *
- * After TAK_OUTPUT_FULL take the values out and grant 0 with the same slice: the leftover of the earlier grant pays for the rest. OUT
- * writes 1 value, DUMP_REG N and DUMP_DATA_MEM S, each whole or not at all, so that a slice shorter than N or S never takes that dump.
- * TAK_OUTPUT_FULL with 0 values says that the whole slice is too short for the next step: a loop that only grants 0 again would
- * never end. A slice of the greater of N and S values is always enough.
+ * `ending` becomes how it ended, `spent` the cycles that this call spent (a failing step costs its price too), `values` the number of
+ * values written to output[0] and behind, over what stood there; later elements keep their contents. So use the values after each
+ * call. OUT writes 1 value, DUMP_REG the N registers, DUMP_DATA_MEM the S data cells, each in order, and whole or not at all; nothing
+ * marks where a dump begins.
  *
- * How long a call takes follows from the leftover, cycles of earlier grants included, and not from `cycles` alone: who grants more
- * after each full output, instead of 0, gathers a leftover of up to 10^15 cycles, which one later call then spends.
+ * After TAK_OUTPUT_FULL use the values and grant 0, with this slice or another: the leftover of the earlier grant pays for the rest. A
+ * slice shorter than N or S never takes that dump: TAK_OUTPUT_FULL with 0 values says that the whole slice is too short for the next
+ * step, and a loop that only grants 0 again with the same slice never ends. A slice of the greater of N and S values always suffices.
+ *
+ * A call returns when an ending holds and not before, and may spend the whole leftover, that of earlier grants included: who grants
+ * more after each full output, instead of 0, gathers up to 10^15 cycles, which one later call then spends. 10^9 cycles take up to some
+ * 6 seconds on a desktop processor. With a record from elsewhere look at granted less spent first.
  *
  * Checks, in order: 100 1 2 3 4 5 6 9 10 15 16 17. */
 uint32_t tak_grant(int64_t *record, size_t record_length,
@@ -171,21 +190,42 @@ uint32_t tak_grant(int64_t *record, size_t record_length,
  * Checks, in order: 18. */
 uint32_t tak_decimal(int32_t value, uint8_t *bytes, size_t length, uint64_t *count);
 
-/* A run in slices of 1,000 cycles, through full outputs (callers/c/slices.c is this as a whole program):
+/* A whole program: it runs another in slices of 200 cycles, through full outputs.
  *
- *   uint32_t image[4 * T], ending;
- *   int32_t registers[N], cells[S], output[N < S ? S : N];
- *   int64_t record[TAK_RECORD_LENGTH];
- *   uint64_t cycles = 1000, lines, line, values, spent;
+ *   #include <stdio.h>
+ *   #include <string.h>
+ *   #include <tak.h>
  *
- *   if (tak_load(K, N, S, B, T, text, text_length, image, 4 * T, &lines, &line) != 0) ...
- *   if (tak_start(K, N, S, B, T, image, 4 * T, registers, N, cells, S, record, TAK_RECORD_LENGTH) != 0) ...
- *   do {
- *       if (tak_grant(record, TAK_RECORD_LENGTH, cycles, image, 4 * T, input, input_length, registers, N, cells, S,
- *                     output, sizeof output / sizeof *output, &ending, &values, &spent) != 0) ...
- *       ... use output[0] to output[values - 1] ...
- *       cycles = ending == TAK_OUTPUT_FULL ? 0 : 1000;
- *   } while (ending == TAK_PAUSED || ending == TAK_OUTPUT_FULL);
+ *   enum { K = 16, N = 4, S = 3, B = 1, T = 16, OUTPUT = N < S ? S : N };
+ *
+ *   static const char text[] = "IN R0\nOUT R0\nDEC R0 1\nJMPGE 1 R0 R1\nDUMP_REG\n";
+ *   static const char input[] = "5";
+ *
+ *   int main(void)
+ *   {
+ *       uint32_t image[4 * T], ending = 0, refusal;
+ *       int32_t registers[N], cells[S], output[OUTPUT];
+ *       int64_t record[TAK_RECORD_LENGTH];
+ *       uint64_t cycles = 200, lines, line, values, spent;
+ *
+ *       refusal = tak_load(K, N, S, B, T, (const uint8_t *)text, strlen(text), image, 4 * T, &lines, &line);
+ *       if (refusal == 0)
+ *           refusal = tak_start(K, N, S, B, T, image, 4 * T, registers, N, cells, S, record, TAK_RECORD_LENGTH);
+ *       do {
+ *           if (refusal == 0)
+ *               refusal = tak_grant(record, TAK_RECORD_LENGTH, cycles, image, 4 * T, (const uint8_t *)input, strlen(input),
+ *                                   registers, N, cells, S, output, OUTPUT, &ending, &values, &spent);
+ *           if (refusal != 0) {
+ *               printf("refused: %u\n", (unsigned)refusal);
+ *               return 1;
+ *           }
+ *           for (uint64_t i = 0; i < values; i++)
+ *               printf("%d\n", (int)output[i]);
+ *           cycles = ending == TAK_OUTPUT_FULL ? 0 : 200;
+ *       } while (ending == TAK_PAUSED || ending == TAK_OUTPUT_FULL);
+ *       printf("%s\n", ending == TAK_ENDED ? "ended" : "failed");
+ *       return 0;
+ *   }
  */
 
 #ifdef __cplusplus

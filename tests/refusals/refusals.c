@@ -75,6 +75,9 @@ static void set(uint32_t *parameter, int position, uint32_t value)
     record[position] = value;
 }
 
+/* An argument of the text's line, counted from 0. */
+static void spoil_argument(int index, const char *word) { memcpy(text + 4 + 3 * index, word, 2); }
+
 /* Makes the arguments faulty. */
 static void spoil(uint32_t fault)
 {
@@ -97,8 +100,8 @@ static void spoil(uint32_t fault)
     case TAK_REFUSED_IMAGE: image[0] = 63; break;
     case TAK_REFUSED_INSTRUCTION: memcpy(text, "SUM", 3); break;
     case TAK_REFUSED_ARGUMENT_COUNT: memcpy(text, "ADD R0 R1   ", 12); break;
-    case TAK_REFUSED_ARGUMENT_FORM: memcpy(text + 4, "??", 2); break;
-    case TAK_REFUSED_ARGUMENT_RANGE: memcpy(text + 4, "R3", 2); break;
+    case TAK_REFUSED_ARGUMENT_FORM: spoil_argument(0, "??"); break;
+    case TAK_REFUSED_ARGUMENT_RANGE: spoil_argument(0, "R3"); break;
     case TAK_REFUSED_RECORD: record[TAK_IAR] = GREAT; break;
     case TAK_REFUSED_INPUT_LENGTH: input_length = LONG; break;
     case TAK_REFUSED_CYCLES: cycles = TAK_MAX_GRANT + 1; break;
@@ -122,8 +125,30 @@ static int stand_together(uint32_t first, uint32_t second)
     return !(of_an_argument(first) && of_an_argument(second));
 }
 
+/* Of two faulty arguments the left one is told, whatever is wrong with each. */
+static void two_arguments(void)
+{
+    static const struct {
+        uint32_t refusal;
+        const char *word;
+    } wrong[] = {{TAK_REFUSED_ARGUMENT_FORM, "??"}, {TAK_REFUSED_ARGUMENT_RANGE, "R3"}};
+
+    for (int left = 0; left < 2; left++) {
+        for (int right = 1; right < 3; right++) {
+            make_right();
+            spoil_argument(0, wrong[left].word);
+            spoil_argument(right, wrong[1 - left].word);
+            if (load() != wrong[left].refusal || line != 0) {
+                printf("refusals: of two faulty arguments the right one is told\n");
+                exit(2);
+            }
+        }
+    }
+}
+
 int main(void)
 {
+    two_arguments();
     for (int c = 0; c < CALLS; c++) {
         make_right();
         printf("%s 0 0 %" PRIu32 "\n", calls[c].name, calls[c].call());

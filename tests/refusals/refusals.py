@@ -55,7 +55,7 @@ def in_header(text, refusals, calls):
     """Each constant with its number, sentence and calls; the order of checks above each call."""
     found = re.findall(r"^    (TAK_REFUSED_\w+) = (\d+),?\n        /\* (.*)\. (tak_.*) \*/$", text, re.M)
     wanted = [(name, str(number), sentence, ", ".join(given_by(number, calls))) for number, (name, sentence) in refusals.items()]
-    orders = re.findall(r"Checks, in order: ([\d ]+)\. \*/\nuint32_t (\w+)\(", text)
+    orders = re.findall(r"Checks, in order: ([\d ]+)(?:;[^./]*)?\. \*/\nuint32_t (\w+)\(", text)
     names = set(re.findall(r"TAK_REFUSED_[A-Z_]+", text))
     return (
         compared("refusals", found, wanted)
@@ -71,7 +71,7 @@ def in_calls(text, refusals, calls):
         (str(number), name, sentence, ", ".join(f"`{call}`" for call in given_by(number, calls)))
         for number, (name, sentence) in refusals.items()
     ]
-    orders = re.findall(r"^### `(\w+)`\n(?:(?!#).*\n)*?Checks, in order: ([\d, ]+)\.$", text, re.M)
+    orders = re.findall(r"^### `(\w+)`\n(?:(?!#).*\n)*?Checks, in order: ([\d, ]+)(?:;[^.]*)?\.$", text, re.M)
     return compared("refusals", found, wanted) + compared(
         "orders", orders, [(call, ", ".join(map(str, order))) for call, order in calls.items()]
     )
