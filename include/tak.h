@@ -16,18 +16,20 @@
  *
  * What holds for every call:
  *
- *   - A slice is a pointer and the count of its elements, not of its bytes: no call can see that `output`, `text` or `input` is shorter
- *     than the count beside it. With the count 0 the pointer is not used and may be null. Other pointers, those to a single number
- *     among them, must be valid and aligned for their type.
+ *   - A slice is a pointer and the count of its elements, not of its bytes; no call can see that a slice is shorter than the count
+ *     beside it. With the count 0 the pointer is not used and may be null. Other pointers, those to a single number among them, must
+ *     be valid and aligned for their type.
  *   - What a call may write (pointers without const) must not overlap anything else that the same call is lent. Calls may run at the
  *     same time if none writes what another is lent; several machines may share an image and an input.
  *   - The result is 0, or the number of a refusal (TAK_REFUSED_...): the first check that does not pass, in the order beside the call.
  *   - A refused call leaves every slice as it was. Every call writes the single numbers behind its pointers; a refused one writes 0
  *     to them, but for the index of a faulty line.
- *   - A call takes at most TAK_..._STACK bytes of stack on x86-64, its arguments and return address included.
+ *   - A call takes at most TAK_..._STACK bytes of stack on x86-64, its arguments and return address included, if memcpy, memmove and
+ *     memset are bound before it: in a static program, or one linked with -z now. Otherwise the first call also takes what the
+ *     dynamic linker needs to find them, some 3 KiB.
  *
- * To store a machine, store record, registers and data cells, and image and input (tak_load makes the same image of the same text). It
- * goes on from them at any time, in another process too; a grant of 0 tells how it stands.
+ * To store a machine, store record, registers and data cells, and image and input (tak_load makes the same image of the same text), and
+ * the last ending if it is wanted. It goes on from them at any time, in another process too.
  */
 #ifndef TAK_H
 #define TAK_H
@@ -73,7 +75,7 @@ enum {
     TAK_S,       /* data cells */
     TAK_B,       /* directly addressed data cells */
     TAK_T,       /* instruction cells; these five within the limits above */
-    TAK_IAR,     /* the cell that runs next, or that has failed: 0 to T; it is the index of its line in the text, from 0 */
+    TAK_IAR,     /* the cell that runs next, or that has failed: 0 to T; line i of the text, from 0, fills cell i */
     TAK_IRCR,    /* the return code of the last step: 0 to 3, and the machine has failed if it is not 0 */
     TAK_SHR,     /* the data cell on top of the stack: B - 1 (the stack is empty) to S - 1 */
     TAK_PLACE,   /* the first byte of the input that is not read yet: 0 to the input's length */
@@ -82,7 +84,7 @@ enum {
 };
 
 /* How an accepted grant ended; 0 stands for a refused one. A grant looks before each step, in this order. A machine that has failed or
- * ended stands still for good: further grants are accepted, count in granted, and end alike with 0 values and 0 cycles. */
+ * ended stands still for good: a further grant that passes its checks counts in granted, and ends alike with 0 values and 0 cycles. */
 enum {
     TAK_FAILED = 1,     /* the last step had a return code other than 0, which is in the record */
     TAK_ENDED = 2,      /* the next cell is empty, since no line of the text fills it (a line without words does), or IAR is T */
@@ -116,7 +118,7 @@ enum {
     TAK_REFUSED_MEMORY_LENGTH = 9,
         /* the register slice does not have N numbers, or the cell slice does not have S. tak_start, tak_grant */
     TAK_REFUSED_IMAGE = 10,
-        /* the image is not one that some text loads as with these parameters. tak_start, tak_grant */
+        /* no text, of whatever length, yields this image with these parameters. tak_start, tak_grant */
     TAK_REFUSED_INSTRUCTION = 11,
         /* the first word of the line is not an instruction. tak_load */
     TAK_REFUSED_ARGUMENT_COUNT = 12,
@@ -158,8 +160,9 @@ uint32_t tak_start(uint32_t k, uint32_t n, uint32_t s, uint32_t b, uint32_t t,
 
 /* Adds cycles, 0 to TAK_MAX_GRANT, to granted and runs the program from where the record says until one of the four endings holds. The
  * record, the registers and the data cells go from one call to the next as the call before left them. Image and input stay the same
- * in every call of a run; nothing checks this, and with others the machine goes on with those. The input has decimal numbers between
- * blanks, tabs or line ends, and like the text it is exactly `input_length` bytes; an IN that finds nothing left fails for good.
+ * in every call of a run; that they do is not checked, and with others that fit the machine goes on with those. The input has decimal
+ * numbers between blanks, tabs or line ends, and like the text it is exactly `input_length` bytes; an IN that finds nothing left fails
+ * for good.
  *
  * `ending` becomes how it ended, `spent` the cycles that this call spent (a failing step costs its price too), `values` the number of
  * values written to output[0] and behind, over what stood there; later elements keep their contents. So use the values after each
@@ -171,8 +174,8 @@ uint32_t tak_start(uint32_t k, uint32_t n, uint32_t s, uint32_t b, uint32_t t,
  * step, and a loop that only grants 0 again with the same slice never ends. A slice of the greater of N and S values always suffices.
  *
  * A call returns when an ending holds and not before, and may spend the whole leftover, that of earlier grants included: who grants
- * more after each full output, instead of 0, gathers up to 10^15 cycles, which one later call then spends. 10^9 cycles take up to some
- * 6 seconds on a desktop processor. With a record from elsewhere look at granted less spent first.
+ * more after each full output, instead of 0, gathers up to 10^15 cycles, which one later call then spends. 10^9 cycles may take several
+ * seconds. With a record from elsewhere look at granted less spent first.
  *
  * Checks, in order: 100 1 2 3 4 5 6 9 10 15 16 17. */
 uint32_t tak_grant(int64_t *record, size_t record_length,
@@ -190,7 +193,7 @@ uint32_t tak_grant(int64_t *record, size_t record_length,
  * Checks, in order: 18. */
 uint32_t tak_decimal(int32_t value, uint8_t *bytes, size_t length, uint64_t *count);
 
-/* A whole program: it runs another in slices of 200 cycles, through full outputs.
+/* A whole program: it runs another in slices of 400 cycles, through full outputs.
  *
  *   #include <stdio.h>
  *   #include <string.h>
@@ -206,7 +209,7 @@ uint32_t tak_decimal(int32_t value, uint8_t *bytes, size_t length, uint64_t *cou
  *       uint32_t image[4 * T], ending = 0, refusal;
  *       int32_t registers[N], cells[S], output[OUTPUT];
  *       int64_t record[TAK_RECORD_LENGTH];
- *       uint64_t cycles = 200, lines, line, values, spent;
+ *       uint64_t cycles = 400, lines, line, values, spent;
  *
  *       refusal = tak_load(K, N, S, B, T, (const uint8_t *)text, strlen(text), image, 4 * T, &lines, &line);
  *       if (refusal == 0)
@@ -219,12 +222,13 @@ uint32_t tak_decimal(int32_t value, uint8_t *bytes, size_t length, uint64_t *cou
  *               printf("refused: %u\n", (unsigned)refusal);
  *               return 1;
  *           }
+ *           printf("grant of %u, ending %u, values", (unsigned)cycles, (unsigned)ending);
  *           for (uint64_t i = 0; i < values; i++)
- *               printf("%d\n", (int)output[i]);
- *           cycles = ending == TAK_OUTPUT_FULL ? 0 : 200;
+ *               printf(" %d", (int)output[i]);
+ *           printf("\n");
+ *           cycles = ending == TAK_OUTPUT_FULL ? 0 : 400;
  *       } while (ending == TAK_PAUSED || ending == TAK_OUTPUT_FULL);
- *       printf("%s\n", ending == TAK_ENDED ? "ended" : "failed");
- *       return 0;
+ *       return ending == TAK_ENDED ? 0 : 1;
  *   }
  */
 

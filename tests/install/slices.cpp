@@ -23,8 +23,9 @@ int main()
     std::vector<std::uint32_t> image(4 * T);
     std::vector<std::int32_t> registers(N), cells(S), output(std::max(N, S)), all;
     std::vector<std::int64_t> record(TAK_RECORD_LENGTH);
-    std::uint64_t lines, line, values, spent, cycles = 70;
+    std::uint64_t lines, line, values, spent, cycles = 400;
     std::uint32_t ending, refusal;
+    int full = 0;
 
     refusal = tak_load(K, N, S, B, T, bytes(text), text.size(), image.data(), image.size(), &lines, &line);
     if (refusal == 0)
@@ -40,10 +41,12 @@ int main()
             return 1;
         }
         all.insert(all.end(), output.begin(), output.begin() + static_cast<std::ptrdiff_t>(values));
-        cycles = ending == TAK_OUTPUT_FULL ? 0 : 70;
+        full += ending == TAK_OUTPUT_FULL;
+        cycles = ending == TAK_OUTPUT_FULL ? 0 : 400;
     } while (ending == TAK_PAUSED || ending == TAK_OUTPUT_FULL);
     for (std::int32_t value : all)
         std::printf("%d ", static_cast<int>(value));
-    std::printf("ending %u, %lld cycles, tak %s\n", static_cast<unsigned>(ending), static_cast<long long>(record[TAK_SPENT]), TAK_VERSION);
+    std::printf("ending %u, %lld cycles, full outputs: %d, tak %s\n", static_cast<unsigned>(ending),
+                static_cast<long long>(record[TAK_SPENT]), full, TAK_VERSION);
     return 0;
 }

@@ -10,7 +10,7 @@ use crate::refusal::{Refusal, accepted};
 #[derive(Clone, Copy, Debug, PartialEq, Eq, Hash)]
 #[non_exhaustive]
 pub enum Ending {
-    /// The last step had a return code, which is in the record; the machine stands still for good.
+    /// The last step had a return code other than 0, which is in the record; the machine stands still for good.
     Failed,
     /// The program is at its end, at an empty cell or behind the last one; the machine stands still for good.
     Ended,
@@ -57,6 +57,7 @@ impl fmt::Display for Ending {
 
 /// What an accepted grant gave.
 #[derive(Clone, Copy, Debug, PartialEq, Eq)]
+#[non_exhaustive]
 pub struct Granted<'a> {
     /// How it ended.
     pub ending: Ending,
@@ -66,7 +67,15 @@ pub struct Granted<'a> {
     pub spent: u64,
 }
 
-/// Loads a program text into an image of 4·T words and gives the count of its lines. Of faulty lines the first is told.
+/// Loads a program text into an image of 4·T words and gives the count of its lines.
+///
+/// # Errors
+///
+/// In this order: [`Refusal::ParameterK`], `N`, `S`, `B`, `T`, [`Refusal::ImageLength`], [`Refusal::TextLength`],
+/// [`Refusal::LineCount`]; then of the first faulty line [`Refusal::Instruction`], [`Refusal::ArgumentCount`], and for each argument
+/// from the left [`Refusal::ArgumentForm`], [`Refusal::ArgumentRange`].
+///
+/// # Examples
 ///
 /// ```
 /// use tak::{Parameters, Refusal};
@@ -86,6 +95,13 @@ pub fn load(parameters: Parameters, text: &[u8], image: &mut [u32]) -> Result<us
 }
 
 /// Makes the fresh record and zeroes the N registers and S data cells. It is also how a machine begins anew.
+///
+/// # Errors
+///
+/// In this order: [`Refusal::ParameterK`], `N`, `S`, `B`, `T`, [`Refusal::ImageLength`], [`Refusal::MemoryLength`],
+/// [`Refusal::Image`].
+///
+/// # Examples
 ///
 /// ```
 /// use tak::{Parameters, Refusal};
@@ -119,6 +135,13 @@ pub fn start(
 /// After [`Ending::OutputFull`] take the values out and grant 0: the leftover of the earlier grant pays for the rest. An output of
 /// [`Parameters::output_length`] values has room for every step. A grant of more instead of 0 lets the leftover grow, and one later
 /// call then spends all of it.
+///
+/// # Errors
+///
+/// In this order: [`Refusal::ParameterK`], `N`, `S`, `B`, `T`, [`Refusal::ImageLength`], [`Refusal::MemoryLength`],
+/// [`Refusal::Image`], [`Refusal::Record`], [`Refusal::InputLength`], [`Refusal::Cycles`].
+///
+/// # Examples
 ///
 /// ```
 /// use tak::{Ending, Parameters, Refusal};
@@ -161,6 +184,12 @@ pub fn grant<'a>(
 /// Writes a value in decimal at the start of `bytes`, which are [`DECIMAL_LENGTH`](crate::DECIMAL_LENGTH) or more, and gives the
 /// part that was written.
 ///
+/// # Errors
+///
+/// [`Refusal::DecimalLength`].
+///
+/// # Examples
+///
 /// ```
 /// let mut bytes = [0; tak::DECIMAL_LENGTH];
 /// assert_eq!(tak::decimal(-40, &mut bytes), Ok("-40"));
@@ -176,4 +205,30 @@ pub fn decimal(value: i32, bytes: &mut [u8]) -> Result<&str, Refusal> {
 /// The record that an accepted call wrote. Its numbers are within their limits, so that every field holds its own.
 fn left_by_an_accepted_call(fields: [i64; RECORD_LENGTH]) -> Record {
     Record::try_from(fields).expect("an accepted call leaves numbers within their limits")
+}
+
+#[cfg(test)]
+mod tests {
+    extern crate std;
+
+    use std::string::ToString;
+
+    use super::*;
+
+    #[test]
+    fn endings_by_number() {
+        let endings = [
+            (1, Ending::Failed, "failed"),
+            (2, Ending::Ended, "ended"),
+            (3, Ending::Paused, "paused"),
+            (4, Ending::OutputFull, "output full"),
+        ];
+        for (number, ending, word) in endings {
+            assert_eq!(Ending::from_number(number), Some(ending));
+            assert_eq!(ending.number(), number);
+            assert_eq!(ending.to_string(), word);
+        }
+        assert_eq!(Ending::from_number(0), None);
+        assert_eq!(Ending::from_number(5), None);
+    }
 }

@@ -2,9 +2,8 @@
 //! outputs. The calls are those of `include/tak.h`, functions of a library that is proved to give exactly what its definitions
 //! say, for all arguments; this package gives them the types of Rust.
 //!
-//! - [`Machine`] owns its buffers: the quickest way to run a program.
-//! - [`load`], [`start`], [`grant`] and [`decimal`] borrow theirs, and need neither a heap nor the standard library. Without the
-//!   feature `alloc`, which is on by default, they are all there is.
+//! - `Machine` owns its buffers: the quickest way to run a program. It asks for the feature `alloc`, which is on by default.
+//! - [`load`], [`start`], [`grant`] and [`decimal`] borrow theirs and need no heap. The package never needs the standard library.
 //! - [`raw`] has the same calls with numbers for everything, as C sees them.
 //!
 //! A call that does not fit is refused with a [`Refusal`], and changes nothing. How an accepted grant ends is an [`Ending`].

@@ -33,6 +33,10 @@ pub struct Machine {
 
 impl Machine {
     /// Loads a program text and starts a machine with it.
+    ///
+    /// # Errors
+    ///
+    /// Those of [`load`](crate::load) but [`Refusal::ImageLength`].
     pub fn new(parameters: Parameters, text: &[u8]) -> Result<Machine, Refusal> {
         // No image is empty, so that this call sees whether the parameters fit before any memory is asked for.
         let checked = calls::load(parameters, text, &mut []);
@@ -45,6 +49,10 @@ impl Machine {
     }
 
     /// Starts a machine with an image that was loaded before.
+    ///
+    /// # Errors
+    ///
+    /// Those of [`start`](crate::start) but [`Refusal::MemoryLength`].
     pub fn from_image(parameters: Parameters, image: Vec<u32>) -> Result<Machine, Refusal> {
         // No memory is empty: as above.
         let checked = calls::start(parameters, &image, &mut [], &mut []);
@@ -75,7 +83,16 @@ impl Machine {
         }
     }
 
+    /// The record, image, registers and data cells, from which [`Machine::from_parts`] makes the machine again.
+    pub fn into_parts(self) -> (Record, Vec<u32>, Vec<i32>, Vec<i32>) {
+        (self.record, self.image, self.registers, self.cells)
+    }
+
     /// Begins anew: the fresh record, and zeros in registers and data cells.
+    ///
+    /// # Errors
+    ///
+    /// Those of [`start`](crate::start), if the parts of [`Machine::from_parts`] do not fit each other.
     pub fn restart(&mut self) -> Result<(), Refusal> {
         let parameters = self.record.parameters;
         self.record = calls::start(
@@ -89,6 +106,10 @@ impl Machine {
 
     /// Grants cycles once and gives what this call output. After [`Ending::OutputFull`] a grant of 0 goes on; [`Machine::run`] does
     /// so by itself. The input is the same in every call of one run.
+    ///
+    /// # Errors
+    ///
+    /// Those of [`grant`](crate::grant).
     pub fn grant(&mut self, cycles: u64, input: &[u8]) -> Result<Granted<'_>, Refusal> {
         calls::grant(
             &mut self.record,
@@ -102,6 +123,10 @@ impl Machine {
     }
 
     /// Grants cycles, hands the values to `take`, and after each full output grants 0, until the machine has failed, ended or paused.
+    ///
+    /// # Errors
+    ///
+    /// Those of [`grant`](crate::grant).
     pub fn run(
         &mut self,
         cycles: u64,

@@ -2,8 +2,8 @@
 //! since borrows rule out what the header forbids: two slices that one call writes to cannot overlap, and every pointer is
 //! valid for the length beside it.
 //!
-//! The package's other calls stand on these, with types of their own. Use these where the numbers themselves are wanted: a
-//! record as it was stored, or slices whose lengths are not known to fit.
+//! The package's other calls stand on these, with types of their own. Use these where the numbers themselves are wanted, as of a
+//! record that was stored.
 
 use crate::Parameters;
 
@@ -69,7 +69,7 @@ pub mod record {
 
 /// How an accepted grant ended.
 pub mod ending {
-    /// The last step had a return code.
+    /// The last step had a return code other than 0.
     pub const FAILED: u32 = 1;
     /// The program is at its end.
     pub const ENDED: u32 = 2;
@@ -211,6 +211,7 @@ unsafe extern "C" {
 const UNWRITTEN: u64 = u64::MAX;
 
 /// Loads a text into an image of 4·T words.
+#[must_use = "the call may have been refused"]
 pub fn load(parameters: Parameters, text: &[u8], image: &mut [u32]) -> Loaded {
     let Parameters { k, n, s, b, t } = parameters;
     let (mut lines, mut line) = (UNWRITTEN, UNWRITTEN);
@@ -238,6 +239,7 @@ pub fn load(parameters: Parameters, text: &[u8], image: &mut [u32]) -> Loaded {
 }
 
 /// Writes the fresh record and zeroes the N registers and S data cells; gives 0 or the refusal.
+#[must_use = "the call may have been refused"]
 pub fn start(
     parameters: Parameters,
     image: &[u32],
@@ -267,6 +269,7 @@ pub fn start(
 }
 
 /// Grants cycles to the machine of a record.
+#[must_use = "the call may have been refused"]
 pub fn grant(
     record: &mut [i64],
     cycles: u64,
@@ -307,6 +310,7 @@ pub fn grant(
 }
 
 /// Writes a value in decimal at the start of `bytes`.
+#[must_use = "the call may have been refused"]
 pub fn decimal(value: i32, bytes: &mut [u8]) -> Written {
     let mut count = UNWRITTEN;
     // SAFETY: as in `load`.

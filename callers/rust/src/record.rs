@@ -34,10 +34,11 @@ impl Parameters {
 
 /// Where a machine stands between two grants. [`start`](crate::start) makes it, and [`grant`](crate::grant) keeps it.
 #[derive(Clone, Copy, Debug, PartialEq, Eq, Hash)]
+#[non_exhaustive]
 pub struct Record {
     /// The machine's parameters.
     pub parameters: Parameters,
-    /// The cell that runs next, 0 to T.
+    /// The cell that runs next, or that has failed, 0 to T; a line of the text fills the cell of its index, from 0.
     pub iar: u32,
     /// The return code of the last step, 0 to 3; the machine has failed if it is not 0.
     pub ircr: u32,

@@ -75,7 +75,7 @@ refusals! {
         TEXT_LENGTH TextLength "the text has more than 65,536 bytes"
         LINE_COUNT LineCount "the text has more than T lines"
         MEMORY_LENGTH MemoryLength "the register slice does not have N numbers, or the cell slice does not have S"
-        IMAGE Image "the image is not one that some text loads as with these parameters"
+        IMAGE Image "no text, of whatever length, yields this image with these parameters"
         RECORD Record "a number of the record, a register or a data cell is outside its limits"
         INPUT_LENGTH InputLength "the input has more than 65,536 bytes"
         CYCLES Cycles "the grant is over 10^9 cycles, or would take all grants together over 10^15"
@@ -93,7 +93,7 @@ refusals! {
 impl fmt::Display for Refusal {
     fn fmt(&self, f: &mut fmt::Formatter<'_>) -> fmt::Result {
         if let Some(line) = self.line() {
-            write!(f, "line {line}: ")?;
+            write!(f, "line {line}, counted from 0: ")?;
         }
         write!(f, "{} (refusal {})", self.sentence(), self.number())
     }
@@ -102,6 +102,8 @@ impl fmt::Display for Refusal {
 impl Error for Refusal {}
 
 /// The result of a call that answered this number: accepted with 0. `line` is the index of a faulty line.
+///
+/// A number that is not known is a panic: neither accepting it nor calling it another refusal would be true.
 pub(crate) fn accepted(number: u32, line: u64) -> Result<(), Refusal> {
     match Refusal::from_number(number, line as usize) {
         Some(refusal) => Err(refusal),
@@ -109,5 +111,23 @@ pub(crate) fn accepted(number: u32, line: u64) -> Result<(), Refusal> {
         None => {
             panic!("libtak.a answered {number}, which this version of the package does not know")
         }
+    }
+}
+
+#[cfg(test)]
+mod tests {
+    use super::*;
+
+    #[test]
+    fn numbers_of_calls() {
+        assert_eq!(accepted(0, 0), Ok(()));
+        assert_eq!(accepted(17, 0), Err(Refusal::Cycles));
+        assert_eq!(accepted(12, 4), Err(Refusal::ArgumentCount { line: 4 }));
+    }
+
+    #[test]
+    #[should_panic(expected = "libtak.a answered 99")]
+    fn a_number_that_is_not_known() {
+        let _ = accepted(99, 0);
     }
 }

@@ -85,6 +85,23 @@ fn owned_and_borrowed_calls_agree() {
 }
 
 #[test]
+fn every_dump_has_room() {
+    for (n, s, values) in [(2, 6, 8), (6, 2, 8), (1, 1, 2), (256, 4096, 4352)] {
+        let parameters = Parameters {
+            k: 16,
+            n,
+            s,
+            b: 0,
+            t: 2,
+        };
+        let mut machine = Machine::new(parameters, b"DUMP_DATA_MEM\nDUMP_REG\n").unwrap();
+        let mut count = 0;
+        let ending = machine.run(1_000_000, b"", |some| count += some.len());
+        assert_eq!((ending, count), (Ok(Ending::Ended), values), "{n} {s}");
+    }
+}
+
+#[test]
 fn a_refused_grant_changes_nothing() {
     let mut machine = machine();
     machine.grant(300, INPUT).unwrap();
@@ -126,13 +143,9 @@ fn a_faulty_line_is_named() {
 fn a_machine_goes_on_from_its_parts() {
     let mut machine = machine();
     machine.grant(300, INPUT).unwrap();
-    let stored: [i64; tak::RECORD_LENGTH] = (*machine.record()).into();
-    let mut other = Machine::from_parts(
-        Record::try_from(stored).unwrap(),
-        machine.image().to_vec(),
-        machine.registers().to_vec(),
-        machine.cells().to_vec(),
-    );
+    let (record, image, registers, cells) = machine.clone().into_parts();
+    let stored: [i64; tak::RECORD_LENGTH] = record.into();
+    let mut other = Machine::from_parts(Record::try_from(stored).unwrap(), image, registers, cells);
     assert_eq!(machine.grant(300, INPUT), other.grant(300, INPUT));
     assert_eq!(machine.record(), other.record());
 }

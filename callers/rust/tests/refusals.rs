@@ -38,7 +38,7 @@ fn every_refusal_of_the_table() {
                 assert_eq!(format!("{refusal:?}"), format!("{name} {{ line: 3 }}"));
                 assert_eq!(
                     refusal.to_string(),
-                    format!("line 3: {sentence} (refusal {number})")
+                    format!("line 3, counted from 0: {sentence} (refusal {number})")
                 );
             }
             None => {
