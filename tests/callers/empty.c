@@ -82,8 +82,11 @@ int main(void)
     expect("a grant without an image",
            tak_grant(record, TAK_RECORD_LENGTH, 0, NULL, 0, NULL, 0, registers, N, cells, S, NULL, 0, &ending, &values, &spent),
            TAK_REFUSED_IMAGE_LENGTH);
-    expect("a grant without memory",
-           tak_grant(record, TAK_RECORD_LENGTH, 0, image, 4 * T, NULL, 0, NULL, 0, NULL, 0, NULL, 0, &ending, &values, &spent),
+    expect("a grant without registers",
+           tak_grant(record, TAK_RECORD_LENGTH, 0, image, 4 * T, NULL, 0, NULL, 0, cells, S, NULL, 0, &ending, &values, &spent),
+           TAK_REFUSED_MEMORY_LENGTH);
+    expect("a grant without cells",
+           tak_grant(record, TAK_RECORD_LENGTH, 0, image, 4 * T, NULL, 0, registers, N, NULL, 0, NULL, 0, &ending, &values, &spent),
            TAK_REFUSED_MEMORY_LENGTH);
 
     count = UNWRITTEN;

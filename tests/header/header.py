@@ -1,5 +1,6 @@
 """Compares the functions that the crate tak exports with their declarations: names, order, types, constness, lengths of slices, result; and the
-header's constants with those of the Rust package, by which tests/model reads records and endings, and with the source's.
+header's constants with those of the Rust package, by which tests/model reads records and endings, with the source's, and with the numbers that
+docs/CALLS.md has beside them.
 
 A function in one form: its name, its result, and of each parameter the name, what it is ("" a number, "in" a pointer that the call reads
 through, "out" one that it may write through) and the type of the number. A slice is two parameters, a pointer and its length.
@@ -11,6 +12,7 @@ import sys
 SOURCES = "crates/tak/src/*.rt"
 LIMITS = "crates/model/src/lib.rt"
 HEADER = "include/tak.h"
+PAGE = "docs/CALLS.md"
 PACKAGE = "callers/rust/src/raw.rs"
 RUST = ("callers/**/*.rs", "tests/**/*.rs", "bench/**/*.rs")
 
@@ -143,6 +145,21 @@ def other_constants(header, package, source):
     return wrong + [f"TAK_{name} is {here.get(name)}, in the source {value}" for name, value in source.items() if here.get(name) != value]
 
 
+def page_constants(page):
+    """The constants of the page's tables of endings and of stacks, with the numbers beside them."""
+    endings = re.findall(r"^\| `TAK_(\w+)` \| (\d+) \| ", page, re.M)
+    stacks = [(name, value.replace(",", "")) for value, name in re.findall(r"\| ([\d,]+) \| `TAK_(\w+_STACK)` \|$", page, re.M)]
+    return {name: int(value) for name, value in endings + stacks}
+
+
+def other_on_page(header, page):
+    """A line for each ending or stack that the page has otherwise than the header, or not at all."""
+    endings = re.search(r"enum \{\s*TAK_FAILED[^}]*\}", header)[0]
+    here = {name: value for name, value in header_constants(header).items() if name.endswith("_STACK")} | header_constants(endings)
+    there = page_constants(page)
+    return [f"TAK_{name} is {here.get(name)}, on the page {there.get(name)}" for name in sorted(here.keys() | there.keys()) if here.get(name) != there.get(name)]
+
+
 def differences(exported, declared):
     """A line for each function that is not the same in both."""
     wrong = [f"{name} is declared and not exported" for name in sorted(declared.keys() - exported.keys())]
@@ -252,7 +269,13 @@ def main():
         count([f"{path}: {line}" for line in differences(exported, functions)])
     numbers = source_constants(source, read(LIMITS))
     count([f"{HEADER}: {line}" for line in other_constants(header, rust[PACKAGE], numbers)])
+    page = read(PAGE)
+    count([f"{HEADER}: {line}" for line in other_on_page(header, page)])
     if not wrong:  # each alteration makes something wrong of what is right
+        for name, value in page_constants(page).items():
+            for old in (f"`TAK_{name}` | {value} |", f"| {value:,} | `TAK_{name}` |"):
+                if old in page:
+                    found(f"{name} with another number on the page", other_on_page(header, page.replace(old, old.replace(f"{value:,}", "7"))))
         for what, text in altered_constants(header):
             found(what, other_constants(text, rust[PACKAGE], {}))
         for name, value in numbers.items():
