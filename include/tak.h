@@ -139,8 +139,8 @@ enum {
         /* the record slice has another length than a record. tak_start, tak_grant */
 };
 
-/* Loads a program text into an image of 4*T words, all of which it writes. The text is exactly `text_length` bytes: a zero byte is a byte
- * like any other, so that of a string literal strlen counts. `lines` becomes the count of lines, `line` the index of the faulty line,
+/* Loads a program text into an image of 4*T words, all of which it writes. The text is exactly `text_length` bytes, and a zero byte is one
+ * like any other: of a string hand over strlen, not sizeof. `lines` becomes the count of lines, `line` the index of the faulty line,
  * from 0, and 0 where no line is faulty.
  * Checks, in order: 1 2 3 4 5 6 7 8 11 12 13 14; 11 to 14 are about the first faulty line, first 11, then 12, then each argument from
  * the left, 13 before 14. */
