@@ -1,6 +1,6 @@
 //! Links libtak.a: from the folder that TAK_LIB names (a relative one counts from the package's folder); else from where the
-//! repository builds it; else from the lib folder beside the share folder that the package was installed in; else from where
-//! pkg-config knows the same version.
+//! repository builds it, or of an installed package from the lib folder beside its share folder; else from where pkg-config knows
+//! the same version.
 
 use std::env;
 use std::path::{Path, PathBuf};
@@ -8,54 +8,75 @@ use std::process::Command;
 
 const ARCHIVE: &str = "libtak.a";
 
-/// The folder of the installed library, by pkg-config.
-fn known_to_pkg_config() -> Option<PathBuf> {
+/// The folder that pkg-config knows, or what it says instead.
+fn known_to_pkg_config() -> Result<PathBuf, String> {
     let package = format!("tak = {}", env!("CARGO_PKG_VERSION"));
-    let found = Command::new("pkg-config")
-        .args(["--variable=libdir", &package])
+    let asked = Command::new("pkg-config")
+        .args(["--print-errors", "--variable=libdir", &package])
         .output()
-        .ok()
-        .filter(|output| output.status.success())?;
-    let folder = String::from_utf8(found.stdout).ok()?;
-    Some(PathBuf::from(folder.trim()))
+        .map_err(|error| error.to_string())?;
+    let said = |bytes: &[u8]| String::from_utf8_lossy(bytes).trim().replace('\n', " ");
+    if asked.status.success() {
+        Ok(PathBuf::from(said(&asked.stdout)))
+    } else {
+        Err(format!("asked for `{package}`: {}", said(&asked.stderr)))
+    }
 }
 
-/// The folders to look in, the first one first.
-fn folders() -> Vec<PathBuf> {
-    if let Some(folder) = env::var_os("TAK_LIB").filter(|folder| !folder.is_empty()) {
-        return vec![PathBuf::from(folder)];
-    }
-    let package = Path::new(env!("CARGO_MANIFEST_DIR"));
-    let beside = if package.join("../../crates.txt").is_file() {
-        package.join("../../target/staticlib")
+/// The folder of the package's own repository or installation.
+fn own_folder(package: &Path) -> PathBuf {
+    let up = |levels: usize| package.ancestors().nth(levels).unwrap_or(package);
+    if up(2).join("crates.txt").is_file() {
+        up(2).join("target/staticlib")
     } else {
-        package.join("../../../lib")
-    };
-    let mut folders = vec![beside];
-    folders.extend(known_to_pkg_config());
-    folders
+        up(3).join("lib")
+    }
+}
+
+/// The folder that has the archive, or why none is found.
+fn folder() -> Result<PathBuf, String> {
+    let package = PathBuf::from(env::var_os("CARGO_MANIFEST_DIR").expect("cargo names the folder"));
+    let has_archive = |folder: &PathBuf| folder.join(ARCHIVE).is_file();
+    if let Some(named) = env::var_os("TAK_LIB").filter(|named| !named.is_empty()) {
+        let folder = package.join(named);
+        let missing = format!("it is not in {folder:?}, which TAK_LIB names");
+        return Some(folder).filter(has_archive).ok_or(missing);
+    }
+    let own = own_folder(&package);
+    if has_archive(&own) {
+        return Ok(own);
+    }
+    match known_to_pkg_config() {
+        Ok(known) if has_archive(&known) => Ok(known),
+        Ok(known) => Err(format!(
+            "it is neither in {own:?} nor in {known:?}, which pkg-config names"
+        )),
+        Err(said) => Err(format!(
+            "it is not in {own:?}, and pkg-config does not know it ({said})"
+        )),
+    }
 }
 
 fn main() {
     for name in ["TAK_LIB", "PKG_CONFIG_PATH"] {
         println!("cargo::rerun-if-env-changed={name}");
     }
-    if env::var("CARGO_CFG_TARGET_ARCH").as_deref() != Ok("x86_64") {
-        println!("cargo::error={ARCHIVE} has code for x86-64 alone");
+    let target = |part: &str| env::var(format!("CARGO_CFG_TARGET_{part}")).unwrap_or_default();
+    if target("ARCH") != "x86_64" || ["windows", "uefi", "macos"].contains(&&*target("OS")) {
+        println!(
+            "cargo::error={ARCHIVE} has ELF code for x86-64 with the System V calling convention alone"
+        );
         return;
     }
-    let folders = folders();
-    for folder in &folders {
-        println!("cargo::rerun-if-changed={}", folder.join(ARCHIVE).display());
-    }
-    match folders.iter().find(|folder| folder.join(ARCHIVE).is_file()) {
-        Some(folder) => {
+    match folder() {
+        Ok(folder) => {
+            println!("cargo::rerun-if-changed={}", folder.join(ARCHIVE).display());
             println!("cargo::rustc-link-search=native={}", folder.display());
             println!("cargo::rustc-link-lib=static=tak");
         }
-        None => println!(
-            "cargo::error={ARCHIVE} is not in {folders:?}. `make library` at the root of the repository builds it, `make install` \
-             installs it; of one that is elsewhere TAK_LIB names the folder, or pkg-config knows it (PKG_CONFIG_PATH)"
+        Err(reason) => println!(
+            "cargo::error={ARCHIVE} was not found: {reason}. TAK_LIB can name its folder, PKG_CONFIG_PATH that of tak.pc; in the \
+             repository `make library` builds it"
         ),
     }
 }

@@ -8,9 +8,8 @@ use crate::refusal::{Refusal, accepted};
 
 /// How an accepted grant ended. A grant looks before each step, in the order in which these stand here.
 #[derive(Clone, Copy, Debug, PartialEq, Eq, Hash)]
-#[non_exhaustive]
 pub enum Ending {
-    /// The last step had a return code other than 0, which is in the record; the machine stands still for good.
+    /// The last step had a return code other than 0, [`Record::ircr`]; the machine stands still for good.
     Failed,
     /// The program is at its end, at an empty cell or behind the last one; the machine stands still for good.
     Ended,
@@ -75,6 +74,10 @@ pub struct Granted<'a> {
 /// [`Refusal::LineCount`]; then of the first faulty line [`Refusal::Instruction`], [`Refusal::ArgumentCount`], and for each argument
 /// from the left [`Refusal::ArgumentForm`], [`Refusal::ArgumentRange`].
 ///
+/// # Panics
+///
+/// If the archive is of another version and answers a number that is not known here.
+///
 /// # Examples
 ///
 /// ```
@@ -100,6 +103,10 @@ pub fn load(parameters: Parameters, text: &[u8], image: &mut [u32]) -> Result<us
 ///
 /// In this order: [`Refusal::ParameterK`], `N`, `S`, `B`, `T`, [`Refusal::ImageLength`], [`Refusal::MemoryLength`],
 /// [`Refusal::Image`].
+///
+/// # Panics
+///
+/// As [`load`].
 ///
 /// # Examples
 ///
@@ -140,6 +147,10 @@ pub fn start(
 ///
 /// In this order: [`Refusal::ParameterK`], `N`, `S`, `B`, `T`, [`Refusal::ImageLength`], [`Refusal::MemoryLength`],
 /// [`Refusal::Image`], [`Refusal::Record`], [`Refusal::InputLength`], [`Refusal::Cycles`].
+///
+/// # Panics
+///
+/// As [`load`].
 ///
 /// # Examples
 ///
@@ -187,6 +198,10 @@ pub fn grant<'a>(
 /// # Errors
 ///
 /// [`Refusal::DecimalLength`].
+///
+/// # Panics
+///
+/// As [`load`].
 ///
 /// # Examples
 ///

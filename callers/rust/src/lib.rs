@@ -8,6 +8,14 @@
 //!
 //! A call that does not fit is refused with a [`Refusal`], and changes nothing. How an accepted grant ends is an [`Ending`].
 //!
+//! The programs are written in TCL, one instruction a line; `TCL.md` has the language, and `CALLS.md` the calls at more length. They
+//! stand in `docs` of the repository and are installed in `share/doc/tak`. An input has decimal numbers between blanks, tabs or line
+//! ends.
+//!
+//! The package links `libtak.a`, which has code for x86-64 with the System V calling convention: that of its own repository or
+//! installation, else the one of the same version that pkg-config knows. The environment variable `TAK_LIB` names another folder;
+//! the archive there must be of this version.
+//!
 //! ```
 //! # #[cfg(feature = "alloc")] {
 //! use tak::{Ending, Machine, Parameters};
@@ -42,6 +50,7 @@ mod refusal;
 pub use calls::{Ending, Granted, decimal, grant, load, start};
 #[cfg(feature = "alloc")]
 pub use machine::Machine;
+#[doc(inline)]
 pub use raw::{
     DECIMAL_LENGTH, MAX_GRANT, MAX_GRANTED, MAX_INPUT_LENGTH, MAX_K, MAX_N, MAX_S, MAX_T,
     MAX_TEXT_LENGTH, MIN_K, RECORD_LENGTH,

@@ -7,6 +7,9 @@ use crate::calls::{self, Ending, Granted};
 use crate::record::{Parameters, Record};
 use crate::refusal::Refusal;
 
+/// The least values that the output has room for, so that a program with small dumps does not stop at every value.
+const LEAST_OUTPUT: usize = 256;
+
 /// A machine with its image, memory and record, and an output of its own that has room for every step.
 ///
 /// ```
@@ -65,15 +68,16 @@ impl Machine {
         Ok(Machine::from_parts(record, image, registers, cells))
     }
 
-    /// A machine that goes on from where another stood, by its record, image, registers and data cells. Nothing is checked here:
-    /// a grant refuses parts that do not fit each other.
+    /// A machine that goes on from where another stood, by its record, image, registers and data cells; the input must be kept
+    /// too. Nothing is checked here: a grant refuses parts that do not fit each other, and [`Machine::check`] sees it without one. A
+    /// grant also spends the leftover of the record ([`Record::leftover`]), which in one from elsewhere may be up to 10^15 cycles.
     pub fn from_parts(
         record: Record,
         image: Vec<u32>,
         registers: Vec<i32>,
         cells: Vec<i32>,
     ) -> Machine {
-        let output = vec![0; registers.len().max(cells.len())];
+        let output = vec![0; registers.len().max(cells.len()).max(LEAST_OUTPUT)];
         Machine {
             record,
             image,
@@ -84,6 +88,20 @@ impl Machine {
     }
 
     /// The record, image, registers and data cells, from which [`Machine::from_parts`] makes the machine again.
+    ///
+    /// ```
+    /// use tak::{Ending, Machine, Parameters};
+    ///
+    /// let parameters = Parameters { k: 8, n: 2, s: 4, b: 2, t: 6 };
+    /// let mut machine = Machine::new(parameters, b"IN R0\nIN R1\nADD R0 R1 R0\nOUT R0\n")?;
+    /// machine.grant(60, b"40 2")?;
+    ///
+    /// let (record, image, registers, cells) = machine.into_parts();
+    /// let mut machine = Machine::from_parts(record, image, registers, cells);
+    /// machine.check(b"40 2")?;
+    /// assert_eq!(machine.grant(100, b"40 2")?.values, [42]);
+    /// # Ok::<(), tak::Refusal>(())
+    /// ```
     pub fn into_parts(self) -> (Record, Vec<u32>, Vec<i32>, Vec<i32>) {
         (self.record, self.image, self.registers, self.cells)
     }
@@ -102,6 +120,19 @@ impl Machine {
             &mut self.cells,
         )?;
         Ok(())
+    }
+
+    /// Whether a grant with this input would be accepted, whatever its cycles; no step is taken.
+    ///
+    /// # Errors
+    ///
+    /// Those of [`grant`](crate::grant) but [`Refusal::Cycles`].
+    pub fn check(&mut self, input: &[u8]) -> Result<(), Refusal> {
+        // The cycles are checked last, and no grant may have as many.
+        match self.grant(u64::MAX, input) {
+            Err(Refusal::Cycles) => Ok(()),
+            other => other.map(|_| ()),
+        }
     }
 
     /// Grants cycles once and gives what this call output. After [`Ending::OutputFull`] a grant of 0 goes on; [`Machine::run`] does
@@ -123,6 +154,8 @@ impl Machine {
     }
 
     /// Grants cycles, hands the values to `take`, and after each full output grants 0, until the machine has failed, ended or paused.
+    /// `take` is called with one value or more at a time, and not at all if there are none. The input is the same in every call of
+    /// one run.
     ///
     /// # Errors
     ///
@@ -136,7 +169,9 @@ impl Machine {
         let mut cycles = cycles;
         loop {
             let granted = self.grant(cycles, input)?;
-            take(granted.values);
+            if !granted.values.is_empty() {
+                take(granted.values);
+            }
             if granted.ending != Ending::OutputFull {
                 return Ok(granted.ending);
             }

@@ -22,17 +22,31 @@ pub struct Parameters {
 
 impl Parameters {
     /// The words of an image: 4·T.
-    pub fn image_length(self) -> usize {
+    pub const fn image_length(self) -> usize {
         4 * self.t as usize
     }
 
     /// The values that an output slice needs so that every step has room in it: the greater of N and S, the longest dump.
-    pub fn output_length(self) -> usize {
-        self.n.max(self.s) as usize
+    pub const fn output_length(self) -> usize {
+        (if self.n < self.s { self.s } else { self.n }) as usize
     }
 }
 
 /// Where a machine stands between two grants. [`start`](crate::start) makes it, and [`grant`](crate::grant) keeps it.
+///
+/// To be stored it becomes [`RECORD_LENGTH`] numbers, at the positions of [`raw::record`](crate::raw::record), and is made of them
+/// again; a version with another `RECORD_LENGTH` does not take them.
+///
+/// ```
+/// use tak::{Parameters, RECORD_LENGTH, Record, Refusal};
+///
+/// let parameters = Parameters { k: 8, n: 2, s: 4, b: 2, t: 6 };
+/// let record = tak::start(parameters, &[0; 24], &mut [0; 2], &mut [0; 4])?;
+/// let stored: [i64; RECORD_LENGTH] = record.into();
+/// assert_eq!(Record::try_from(&stored[..]), Ok(record));
+/// assert_eq!(Record::try_from(&stored[1..]), Err(Refusal::RecordLength));
+/// # Ok::<(), Refusal>(())
+/// ```
 #[derive(Clone, Copy, Debug, PartialEq, Eq, Hash)]
 #[non_exhaustive]
 pub struct Record {
@@ -41,19 +55,26 @@ pub struct Record {
     /// The cell that runs next, or that has failed, 0 to T; a line of the text fills the cell of its index, from 0.
     pub iar: u32,
     /// The return code of the last step, 0 to 3; the machine has failed if it is not 0.
+    ///
+    /// - Arithmetic: 1, the result is outside -M to M - 1; 2, the divisor is 0.
+    /// - IN: 1, the next word of the input is not a number; 2, it is outside -M to M - 1; 3, nothing is left.
+    /// - PUSH: 1, the stack is full. POP: 1, it is empty.
+    /// - AND to NOR and NOT: 1, a value is not a truth value (-1 or 0).
+    /// - Jumps: 1, the target is not 0 to T - 1; JMPT and JMPF: 2, not a truth value. SKIP: 1, there is no cell to go to.
     pub ircr: u32,
-    /// The data cell on top of the stack, B - 1 where the stack is empty.
+    /// The data cell on top of the stack, B - 1 (the stack is empty) to S - 1.
     pub shr: i32,
-    /// The first byte of the input that is not read yet.
+    /// The first byte of the input that is not read yet, 0 to the input's length.
     pub place: usize,
-    /// The cycles of all accepted grants together.
+    /// The cycles of all accepted grants together, at most [`MAX_GRANTED`](crate::MAX_GRANTED).
     pub granted: u64,
-    /// The cycles spent.
+    /// The cycles spent, at most `granted`.
     pub spent: u64,
 }
 
 impl Record {
-    /// The cycles that were granted and are not spent.
+    /// The cycles that were granted and are not spent. A grant may spend all of them, besides its own: look at them first in a
+    /// record that comes from elsewhere.
     pub fn leftover(&self) -> u64 {
         self.granted.saturating_sub(self.spent)
     }
@@ -104,6 +125,16 @@ impl TryFrom<[i64; RECORD_LENGTH]> for Record {
             granted: fields[record::GRANTED].try_into().map_err(refused)?,
             spent: fields[record::SPENT].try_into().map_err(refused)?,
         })
+    }
+}
+
+/// The same of a slice, which must have [`RECORD_LENGTH`] numbers.
+impl TryFrom<&[i64]> for Record {
+    type Error = Refusal;
+
+    fn try_from(fields: &[i64]) -> Result<Record, Refusal> {
+        let fields = <[i64; RECORD_LENGTH]>::try_from(fields).map_err(|_| Refusal::RecordLength)?;
+        Record::try_from(fields)
     }
 }
 

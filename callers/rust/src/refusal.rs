@@ -5,11 +5,12 @@ use core::fmt;
 
 use crate::raw::refusal;
 
-/// Writes the enum and what is known of each refusal from one list: constant of [`crate::raw::refusal`], variant, sentence.
+/// Writes the enum and what is known of each refusal from one list: number, its constant in [`crate::raw::refusal`], variant,
+/// sentence.
 macro_rules! refusals {
     (
-        of_calls { $($number:ident $variant:ident $sentence:literal)* }
-        of_lines { $($line_number:ident $line_variant:ident $line_sentence:literal)* }
+        of_calls { $($code:literal $number:ident $variant:ident $sentence:literal)* }
+        of_lines { $($line_code:literal $line_number:ident $line_variant:ident $line_sentence:literal)* }
     ) => {
         /// Why a call was refused; the first of its checks that did not pass. A refused call has changed nothing that it was lent.
         ///
@@ -17,15 +18,18 @@ macro_rules! refusals {
         #[derive(Clone, Copy, Debug, PartialEq, Eq, Hash)]
         #[non_exhaustive]
         pub enum Refusal {
-            $(#[doc = concat!($sentence, ".")] $variant,)*
+            $(#[doc = concat!($code, ": ", $sentence, ".")] $variant,)*
             $(
-                #[doc = concat!($line_sentence, ".")]
+                #[doc = concat!($line_code, ": ", $line_sentence, ".")]
                 $line_variant {
                     /// The index of the first faulty line, counted from 0.
                     line: usize,
                 },
             )*
         }
+
+        $(const _: () = assert!(refusal::$number == $code);)*
+        $(const _: () = assert!(refusal::$line_number == $line_code);)*
 
         impl Refusal {
             /// The refusal of a number, and of the index of a faulty line; none of a number that no call answers.
@@ -37,7 +41,7 @@ macro_rules! refusals {
                 }
             }
 
-            /// The number of the refusal, by which the pages and the header name it.
+            /// The number of the refusal, as C has it.
             pub fn number(self) -> u32 {
                 match self {
                     $(Refusal::$variant => refusal::$number,)*
@@ -66,27 +70,27 @@ macro_rules! refusals {
 
 refusals! {
     of_calls {
-        PARAMETER_K ParameterK "K is outside 8 to 30"
-        PARAMETER_N ParameterN "N is outside 1 to 256"
-        PARAMETER_S ParameterS "S is outside 1 to 4,096, or above M - 1"
-        PARAMETER_B ParameterB "B is outside 0 to S"
-        PARAMETER_T ParameterT "T is outside 1 to 4,096, or above M - 1"
-        IMAGE_LENGTH ImageLength "the image slice does not have 4*T words"
-        TEXT_LENGTH TextLength "the text has more than 65,536 bytes"
-        LINE_COUNT LineCount "the text has more than T lines"
-        MEMORY_LENGTH MemoryLength "the register slice does not have N numbers, or the cell slice does not have S"
-        IMAGE Image "no text, of whatever length, yields this image with these parameters"
-        RECORD Record "a number of the record, a register or a data cell is outside its limits"
-        INPUT_LENGTH InputLength "the input has more than 65,536 bytes"
-        CYCLES Cycles "the grant is over 10^9 cycles, or would take all grants together over 10^15"
-        DECIMAL_LENGTH DecimalLength "fewer than 11 bytes are lent for a decimal"
-        RECORD_LENGTH RecordLength "the record slice has another length than a record"
+        1 PARAMETER_K ParameterK "K is outside 8 to 30"
+        2 PARAMETER_N ParameterN "N is outside 1 to 256"
+        3 PARAMETER_S ParameterS "S is outside 1 to 4,096, or above M - 1"
+        4 PARAMETER_B ParameterB "B is outside 0 to S"
+        5 PARAMETER_T ParameterT "T is outside 1 to 4,096, or above M - 1"
+        6 IMAGE_LENGTH ImageLength "the image slice does not have 4*T words"
+        7 TEXT_LENGTH TextLength "the text has more than 65,536 bytes"
+        8 LINE_COUNT LineCount "the text has more than T lines"
+        9 MEMORY_LENGTH MemoryLength "the register slice does not have N numbers, or the cell slice does not have S"
+        10 IMAGE Image "no text, of whatever length, yields this image with these parameters"
+        15 RECORD Record "a number of the record, a register or a data cell is outside its limits"
+        16 INPUT_LENGTH InputLength "the input has more than 65,536 bytes"
+        17 CYCLES Cycles "the grant is over 10^9 cycles, or would take all grants together over 10^15"
+        18 DECIMAL_LENGTH DecimalLength "fewer than 11 bytes are lent for a decimal"
+        100 RECORD_LENGTH RecordLength "the record slice has another length than a record"
     }
     of_lines {
-        INSTRUCTION Instruction "the first word of the line is not an instruction"
-        ARGUMENT_COUNT ArgumentCount "the line does not have as many arguments as its instruction takes"
-        ARGUMENT_FORM ArgumentForm "an argument of the line is not an argument at all, or has a form that its place does not allow"
-        ARGUMENT_RANGE ArgumentRange "an argument of the line is a register not below N, a cell not below B, or a number outside -M to M - 1"
+        11 INSTRUCTION Instruction "the first word of the line is not an instruction"
+        12 ARGUMENT_COUNT ArgumentCount "the line does not have as many arguments as its instruction takes"
+        13 ARGUMENT_FORM ArgumentForm "an argument of the line is not an argument at all, or has a form that its place does not allow"
+        14 ARGUMENT_RANGE ArgumentRange "an argument of the line is a register not below N, a cell not below B, or a number outside -M to M - 1"
     }
 }
 

@@ -43,24 +43,27 @@ fn a_run_in_slices_of_any_size_outputs_the_same() {
 
 #[test]
 fn a_full_output_goes_on_with_a_grant_of_0() {
-    let mut machine = machine();
-    let first = machine.grant(600, INPUT).unwrap();
-    assert_eq!(
-        (first.ending, first.values, first.spent),
-        (Ending::OutputFull, &VALUES[..4], 549)
-    );
-    let second = machine.grant(0, INPUT).unwrap();
-    assert_eq!(
-        (second.ending, second.values, second.spent),
-        (Ending::Paused, &VALUES[4..5], 51)
-    );
+    let parameters = Parameters {
+        s: 300,
+        ..PARAMETERS
+    };
+    let mut machine = Machine::new(parameters, b"OUT SHR\nDUMP_DATA_MEM\nOUT SHR\n").unwrap();
+    for (cycles, ending, values, spent) in [
+        (1_000_000, Ending::OutputFull, vec![0], 51),
+        (0, Ending::OutputFull, vec![0; 300], 51 * 300),
+        (0, Ending::Ended, vec![0], 51),
+    ] {
+        let granted = machine.grant(cycles, INPUT).unwrap();
+        assert_eq!((granted.ending, granted.spent), (ending, spent));
+        assert_eq!(granted.values, values);
+    }
 }
 
 #[test]
 fn owned_and_borrowed_calls_agree() {
     let mut owned = machine();
     let mut image = vec![7; PARAMETERS.image_length()];
-    let (mut registers, mut cells, mut output) = ([7; 4], [7; 3], [7; 4]);
+    let (mut registers, mut cells, mut output) = ([7; 4], [7; 3], [7; 256]);
     assert_eq!(tak::load(PARAMETERS, TEXT, &mut image), Ok(8));
     let mut record = tak::start(PARAMETERS, &image, &mut registers, &mut cells).unwrap();
     for cycles in [0, 100, 1_000_000_001, 700, 0, 0, 400] {
@@ -148,6 +151,32 @@ fn a_machine_goes_on_from_its_parts() {
     let mut other = Machine::from_parts(Record::try_from(stored).unwrap(), image, registers, cells);
     assert_eq!(machine.grant(300, INPUT), other.grant(300, INPUT));
     assert_eq!(machine.record(), other.record());
+}
+
+#[test]
+fn a_check_takes_no_step() {
+    let mut machine = machine();
+    machine.grant(300, INPUT).unwrap();
+    let before = machine.clone();
+    assert_eq!(machine.check(INPUT), Ok(()));
+    assert_eq!(machine.check(b""), Err(Refusal::Record));
+    assert_eq!(machine.record(), before.record());
+    assert_eq!(machine.registers(), before.registers());
+    assert_eq!(machine.cells(), before.cells());
+}
+
+#[test]
+fn values_are_taken_where_there_are_some() {
+    let parameters = Parameters { n: 1, ..PARAMETERS };
+    let mut machine = Machine::new(parameters, b"OUT IAR\nJMP 0\n").unwrap();
+    let mut taken = Vec::new();
+    let ending = machine.run(55 * 1_000, b"", |some| taken.push(some.len()));
+    assert_eq!(
+        (ending, &taken[..]),
+        (Ok(Ending::Paused), &[256, 256, 256, 232][..])
+    );
+    let ending = machine.run(1, b"", |_| panic!("there is no value"));
+    assert_eq!(ending, Ok(Ending::Paused));
 }
 
 #[test]
