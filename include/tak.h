@@ -29,7 +29,8 @@
  *     dynamic linker needs to find them, some 3 KiB.
  *
  * To store a machine, store record, registers and data cells, and image and input (tak_load makes the same image of the same text), and
- * the last ending if it is wanted. It goes on from them at any time, in another process too.
+ * the last ending if it is wanted. It goes on from them at any time, in another process too; without the ending a grant of 0 goes on
+ * with the leftover and tells how that ends.
  */
 #ifndef TAK_H
 #define TAK_H
@@ -78,13 +79,14 @@ enum {
     TAK_IAR,     /* the cell that runs next, or that has failed: 0 to T; line i of the text, from 0, fills cell i */
     TAK_IRCR,    /* the return code of the last step: 0 to 3, and the machine has failed if it is not 0 */
     TAK_SHR,     /* the data cell on top of the stack: B - 1 (the stack is empty) to S - 1 */
-    TAK_PLACE,   /* the first byte of the input that is not read yet: 0 to the input's length */
+    TAK_PLACE,   /* the first byte of the input that is not read yet, which a failing IN leaves: 0 to the input's length */
     TAK_GRANTED, /* the cycles of all accepted grants together: 0 to TAK_MAX_GRANTED */
     TAK_SPENT    /* the cycles spent: 0 to granted; granted less spent is the leftover */
 };
 
-/* How an accepted grant ended; 0 stands for a refused one. A grant looks before each step, in this order. A machine that has failed or
- * ended stands still for good: a further grant that passes its checks counts in granted, and ends alike with 0 values and 0 cycles. */
+/* How an accepted grant ended; 0 stands for a refused one. A grant looks before each step, in this order. A machine that has failed, or
+ * has ended and keeps its image, stands still for good: a further grant that passes its checks counts in granted, and ends alike with 0
+ * values and 0 cycles. */
 enum {
     TAK_FAILED = 1,     /* the last step had a return code other than 0, which is in the record */
     TAK_ENDED = 2,      /* the next cell is empty, since no line of the text fills it (a line without words does), or IAR is T */
@@ -93,9 +95,9 @@ enum {
 };
 
 /* Return codes in the record. Arithmetic: 1, the result is outside -M to M - 1; 2, the divisor is 0. IN: 1, the next word of the input
- * is not a number; 2, it is outside -M to M - 1; 3, nothing is left. PUSH: 1, the stack is full. POP: 1, it is empty. AND to NOR and
- * NOT: 1, a value is not a truth value (-1 or 0). Jumps: 1, the target is not 0 to T - 1; JMPT and JMPF: 2, not a truth value. SKIP: 1,
- * there is no cell to go to. */
+ * is not a number; 2, it is outside -M to M - 1; 3, nothing is left. PUSH: 1, the stack is full. POP: 1, it is empty. NOT, AND, OR,
+ * XOR, NAND, NOR: 1, a value is not a truth value (-1 or 0). JMPT and JMPF: 2, the same, before all else. A jump that is taken: 1, the
+ * target is not 0 to T - 1. SKIP: 1, there is no cell to go to. */
 
 /* Refusals: what is wrong, and which calls say so. */
 enum {
@@ -140,10 +142,10 @@ enum {
 };
 
 /* Loads a program text into an image of 4*T words, all of which it writes. The text is exactly `text_length` bytes, and a zero byte is one
- * like any other: of a string hand over strlen, not sizeof. `lines` becomes the count of lines, `line` the index of the faulty line,
- * from 0, and 0 where no line is faulty.
- * Checks, in order: 1 2 3 4 5 6 7 8 11 12 13 14; 11 to 14 are about the first faulty line, first 11, then 12, then each argument from
- * the left, 13 before 14. */
+ * like any other: of a string hand over strlen, not sizeof. LF ends a line, and a last LF begins no further one. `lines` becomes the
+ * count of lines, `line` the index of the faulty line, from 0, and 0 where no line is faulty.
+ * Checks, in order: 1 2 3 4 5 6 7 8 11 12 13 14; 11 to 14 are about the first faulty line, first 11, then 12, then argument after
+ * argument from the left, each for 13 and then for 14. */
 uint32_t tak_load(uint32_t k, uint32_t n, uint32_t s, uint32_t b, uint32_t t,
                   const uint8_t *text, size_t text_length,
                   uint32_t *image, size_t image_length,
@@ -160,9 +162,9 @@ uint32_t tak_start(uint32_t k, uint32_t n, uint32_t s, uint32_t b, uint32_t t,
 
 /* Adds cycles, 0 to TAK_MAX_GRANT, to granted and runs the program from where the record says until one of the four endings holds. The
  * record, the registers and the data cells go from one call to the next as the call before left them. Image and input stay the same
- * in every call of a run; that they do is not checked, and with others that fit the machine goes on with those. The input has decimal
- * numbers between blanks, tabs or line ends, and like the text it is exactly `input_length` bytes; an IN that finds nothing left fails
- * for good.
+ * in every call of a run; that they do is not checked, and with others that fit the machine goes on with those (an input shorter than
+ * TAK_PLACE does not: 15). The input is exactly `input_length` bytes: decimal numbers, with + or - in front and leading zeros if
+ * wanted, between blanks (space, tab, CR, LF), and no comments. IN does not wait for more: where nothing is left it fails for good.
  *
  * `ending` becomes how it ended, `spent` the cycles that this call spent (a failing step costs its price too), `values` the number of
  * values written to output[0] and behind, over what stood there; later elements keep their contents. So use the values after each

@@ -11,7 +11,7 @@ use crate::refusal::{Refusal, accepted};
 pub enum Ending {
     /// The last step had a return code other than 0, [`Record::ircr`]; the machine stands still for good.
     Failed,
-    /// The program is at its end, at an empty cell or behind the last one; the machine stands still for good.
+    /// The program is at its end, at an empty cell or behind the last one; with its image the machine stands still for good.
     Ended,
     /// The leftover does not pay for the next step; the machine goes on with a further grant.
     Paused,

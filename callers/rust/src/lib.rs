@@ -9,8 +9,8 @@
 //! A call that does not fit is refused with a [`Refusal`], and changes nothing. How an accepted grant ends is an [`Ending`].
 //!
 //! The programs are written in TCL, one instruction a line; `TCL.md` has the language, and `CALLS.md` the calls at more length. They
-//! stand in `docs` of the repository and are installed in `share/doc/tak`. An input has decimal numbers between blanks, tabs or line
-//! ends.
+//! stand in `docs` of the repository and are installed in `share/doc/tak`. An input has decimal numbers, with `+` or `-` in front
+//! if wanted, between blanks (space, tab, CR, LF).
 //!
 //! The package links `libtak.a`, which has code for x86-64 with the System V calling convention: that of its own repository or
 //! installation, else the one of the same version that pkg-config knows. The environment variable `TAK_LIB` names another folder;

@@ -59,12 +59,12 @@ pub struct Record {
     /// - Arithmetic: 1, the result is outside -M to M - 1; 2, the divisor is 0.
     /// - IN: 1, the next word of the input is not a number; 2, it is outside -M to M - 1; 3, nothing is left.
     /// - PUSH: 1, the stack is full. POP: 1, it is empty.
-    /// - AND to NOR and NOT: 1, a value is not a truth value (-1 or 0).
-    /// - Jumps: 1, the target is not 0 to T - 1; JMPT and JMPF: 2, not a truth value. SKIP: 1, there is no cell to go to.
+    /// - NOT, AND, OR, XOR, NAND, NOR: 1, a value is not a truth value (-1 or 0). JMPT and JMPF: 2, the same, before all else.
+    /// - A jump that is taken: 1, the target is not 0 to T - 1. SKIP: 1, there is no cell to go to.
     pub ircr: u32,
     /// The data cell on top of the stack, B - 1 (the stack is empty) to S - 1.
     pub shr: i32,
-    /// The first byte of the input that is not read yet, 0 to the input's length.
+    /// The first byte of the input that is not read yet, which a failing IN leaves, 0 to the input's length.
     pub place: usize,
     /// The cycles of all accepted grants together, at most [`MAX_GRANTED`](crate::MAX_GRANTED).
     pub granted: u64,
