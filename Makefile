@@ -25,7 +25,7 @@ PACKAGE = callers/rust
 PACKAGE_FILES = Cargo.toml Cargo.lock build.rs $(patsubst $(PACKAGE)/%,%,$(wildcard $(PACKAGE)/src/*.rs $(PACKAGE)/examples/*.rs))
 # Folders below PREFIX are named by it, so that tak.pc stays true if the tree moves and another prefix is given.
 FILLED_IN = sed -e 's|@VERSION@|$(VERSION)|g' -e 's|@PREFIX@|$(PREFIX)|g' \
-    -e 's|@INCLUDEDIR@|$(subst $(PREFIX)/,$${prefix}/,$(INCLUDEDIR))|g' -e 's|@LIBDIR@|$(subst $(PREFIX)/,$${prefix}/,$(LIBDIR))|g'
+    -e 's|@INCLUDEDIR@|$(patsubst $(PREFIX)/%,$${prefix}/%,$(INCLUDEDIR))|g' -e 's|@LIBDIR@|$(patsubst $(PREFIX)/%,$${prefix}/%,$(LIBDIR))|g'
 
 .PHONY: all library program check install uninstall bench clean plain_folders
 # rt keeps its results in one folder.
@@ -53,11 +53,11 @@ check:
 
 # tak.pc has no way to write other characters, nor a folder that depends on where one stands.
 plain_folders:
-	@case '$(PREFIX) $(LIBDIR) $(INCLUDEDIR)' in \
-	    *[!A-Za-z0-9/._+\ -]*|*' '*' '*' '*) echo "PREFIX, LIBDIR and INCLUDEDIR: letters, digits and / . _ + - alone" >&2; exit 1 ;; \
-	    /*' '/*' '/*) ;; \
-	    *) echo "PREFIX, LIBDIR and INCLUDEDIR begin with /" >&2; exit 1 ;; \
-	esac
+	@for folder in '$(PREFIX)' '$(BINDIR)' '$(INCLUDEDIR)' '$(LIBDIR)' '$(PKGCONFIGDIR)' '$(MANDIR)' '$(DOCDIR)' '$(RUSTDIR)'; do \
+	    case "$$folder" in \
+	        ''|[!/]*|*[!A-Za-z0-9/._+-]*) echo "$$folder: a folder begins with / and has letters, digits and / . _ + - alone" >&2; exit 1 ;; \
+	    esac; \
+	done
 
 install: plain_folders all
 	$(INSTALL) -d "$(DESTDIR)$(BINDIR)" "$(DESTDIR)$(INCLUDEDIR)" "$(DESTDIR)$(LIBDIR)" "$(DESTDIR)$(PKGCONFIGDIR)" \

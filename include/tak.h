@@ -25,8 +25,8 @@
  *   - A refused call leaves every slice as it was. Every call writes the single numbers behind its pointers; a refused one writes 0
  *     to them, but for the index of a faulty line.
  *   - A call takes at most TAK_..._STACK bytes of stack on x86-64, its arguments and return address included, if memcpy, memmove and
- *     memset are bound before it: in a static program, or one linked with -z now. Otherwise the first call also takes what the
- *     dynamic linker needs to find them, some 3 KiB.
+ *     memset are bound before it: in a static program, or one linked with -z now. Otherwise a call that is the first to use one of
+ *     them, which may be a late one (a dump), also takes what the dynamic linker needs to find it, some 3 KiB.
  *
  * To store a machine, store record, registers and data cells, and image and input (tak_load makes the same image of the same text), and
  * the last ending if it is wanted. It goes on from them at any time, in another process too; without the ending a grant of 0 goes on
@@ -143,7 +143,7 @@ enum {
 
 /* Loads a program text into an image of 4*T words, all of which it writes. The text is exactly `text_length` bytes, and a zero byte is one
  * like any other: of a string hand over strlen, not sizeof. LF ends a line, and a last LF begins no further one. `lines` becomes the
- * count of lines, `line` the index of the faulty line, from 0, and 0 where no line is faulty.
+ * count of lines, `line` the index of the faulty line, from 0, with the refusals 11 to 14, and else 0.
  * Checks, in order: 1 2 3 4 5 6 7 8 11 12 13 14; 11 to 14 are about the first faulty line, first 11, then 12, then argument after
  * argument from the left, each for 13 and then for 14. */
 uint32_t tak_load(uint32_t k, uint32_t n, uint32_t s, uint32_t b, uint32_t t,

@@ -23,13 +23,15 @@ fn known_to_pkg_config() -> Result<PathBuf, String> {
     }
 }
 
-/// The folder of the package's own repository or installation.
-fn own_folder(package: &Path) -> PathBuf {
+/// The folder of the package's own repository or installation, if it stands in one.
+fn own_folder(package: &Path) -> Option<PathBuf> {
     let up = |levels: usize| package.ancestors().nth(levels).unwrap_or(package);
     if up(2).join("crates.txt").is_file() {
-        up(2).join("target/staticlib")
+        Some(up(2).join("target/staticlib"))
+    } else if package.ends_with("share/tak/rust") {
+        Some(up(3).join("lib"))
     } else {
-        up(3).join("lib")
+        None
     }
 }
 
@@ -43,17 +45,16 @@ fn folder() -> Result<PathBuf, String> {
         return Some(folder).filter(has_archive).ok_or(missing);
     }
     let own = own_folder(&package);
-    if has_archive(&own) {
+    if let Some(own) = own.clone().filter(has_archive) {
         return Ok(own);
     }
+    let not_own = own.map_or(String::new(), |own| format!("it is not in {own:?}; "));
     match known_to_pkg_config() {
         Ok(known) if has_archive(&known) => Ok(known),
         Ok(known) => Err(format!(
-            "it is neither in {own:?} nor in {known:?}, which pkg-config names"
+            "{not_own}it is not in {known:?}, which pkg-config names"
         )),
-        Err(said) => Err(format!(
-            "it is not in {own:?}, and pkg-config does not know it ({said})"
-        )),
+        Err(said) => Err(format!("{not_own}pkg-config does not know it ({said})")),
     }
 }
 

@@ -12,8 +12,8 @@
 //! stand in `docs` of the repository and are installed in `share/doc/tak`. An input has decimal numbers, with `+` or `-` in front
 //! if wanted, between blanks (space, tab, CR, LF).
 //!
-//! The package links `libtak.a`, which has code for x86-64 with the System V calling convention: that of its own repository or
-//! installation, else the one of the same version that pkg-config knows. The environment variable `TAK_LIB` names another folder;
+//! The package links `libtak.a`, which has code for x86-64 with the System V calling convention: that of its own repository, or in
+//! `lib` of the prefix where it is installed, else the one of the same version that pkg-config knows. The environment variable `TAK_LIB` names another folder;
 //! the archive there must be of this version.
 //!
 //! ```

@@ -122,7 +122,7 @@ impl Machine {
         Ok(())
     }
 
-    /// Whether a grant with this input would be accepted, whatever its cycles; no step is taken.
+    /// Whether a grant with this input passes every check but that of its cycles; no step is taken.
     ///
     /// # Errors
     ///

@@ -32,7 +32,8 @@ pub const MAX_GRANT: u64 = 1000000000;
 /// The cycles that all grants of a machine together may have.
 pub const MAX_GRANTED: u64 = 1000000000000000;
 
-/// The bytes of stack that `load` needs at most, on x86-64, its wrapper here not counted.
+/// The bytes of stack that `load` needs at most, on x86-64, its wrapper here not counted, in a program that is static or linked with
+/// `-z now`: otherwise a call that is the first to use memmove or memset takes besides what the dynamic linker needs.
 pub const LOAD_STACK: usize = 2048;
 /// The same of `start`.
 pub const START_STACK: usize = 768;

@@ -101,8 +101,8 @@ impl From<Record> for [i64; RECORD_LENGTH] {
     }
 }
 
-/// The record of stored numbers. Only what a field cannot hold is refused here, with the number that a grant would give for it;
-/// the other limits are checked by each grant.
+/// The record of stored numbers. Only what a field cannot hold is refused here, with the refusal of that field; the other limits are
+/// checked by each grant, which may find another fault first.
 impl TryFrom<[i64; RECORD_LENGTH]> for Record {
     type Error = Refusal;
 
