@@ -1,4 +1,6 @@
 // NEG, ABS, ADD, SUB, MUL, DIV, MOD, INC and DEC. NEG and DIV work in 32 bits, the others in 64. m is document 01's M throughout.
+#![tactic(auto)]
+
 ghost use Rattle.std.specs.Prelude.{◌≡◌, ◌≤◌, pos, neg_ℤ, nat_abs, ◌+ℤ◌, ◌-ℤ◌, ◌*ℤ◌};
 ghost use Rattle.std.specs.Int.Signed.{mag};
 ghost use Rattle.model.specs.Arithmetic.{checked, divide, remainder};
@@ -8,7 +10,7 @@ ghost use Rattle.arithmetic.specs.Answers.{computed};
 use bounds::ranges::{in_range, in_range_wide};
 
 // A return code, and the value where it is 0.
-#[derive(Drop)]
+#[derive(Clone, Copy)]
 pub struct Computed {
     pub code: u32,
     pub value: i32,

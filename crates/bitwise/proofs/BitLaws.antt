@@ -81,33 +81,26 @@ read z = to_z w32 (of_z w32 z)
 abbrev Keeps : (ℕ → ℕ → ℕ) → Type 0
 Keeps f = (k m : ℕ) → 1 ≤ m → 2 * m ≡ 2 ^ k → (u v : ℕ) → u < 2 * m → v < 2 * m → f u v < 2 * m
 
-pub kept : {f : ℕ → ℕ → ℕ} → Keeps f → {m : ℕ} → IsLimit m → {u v : ℕ} → u < 2 * m → v < 2 * m → IsLimit m × (f u v < 2 * m)
-kept keeps l hu hv = (l, keeps l.k _ (one l) (double l) _ _ hu hv)
-
-abbrev Result : (f : ℕ → ℕ → ℕ) (m : ℕ) (x y r : ℤ) → Type 0
-Result f m x y r = (r ≡ bitwise f m x y) × Within m r
-
--- What RNOT says of r and its inverse n.
-abbrev Inverse : (r n : ℤ) → Type 0
-Inverse r n = ((m : ℕ) → Within m r → n ≡ signed_of m (inverted m (bits_of m r))) × ((m : ℕ) → Within m r → Within m n)
+pub kept : {f : ℕ → ℕ → ℕ} → Keeps f → {m : ℕ} → IsLimit m → {u v : ℕ} → u < 2 * m → v < 2 * m → f u v < 2 * m
+kept keeps l hu hv = keeps l.k _ (one l) (double l) _ _ hu hv
 
 module _ (f : ℕ → ℕ → ℕ) {x y : ℤ} (fx : SFits w32 x) (fy : SFits w32 y) where
   -- f of the bits of both, read back as signed.
-  pub operation : {m u v : ℕ} {r : ℤ} → SFits w32 r → u ≡ bits_of m (read x) → v ≡ bits_of m (read y) →
-      (r ≡ signed_of m (f u v)) × Within m r → Result f m x y (read r)
+  pub operation : (m : ℕ) {u v : ℕ} {r : ℤ} → SFits w32 r → u ≡ bits_of m (read x) → v ≡ bits_of m (read y) →
+      r ≡ signed_of m (f u v) → read r ≡ bitwise f m x y
   unfolding bitwise
-  operation fr u v h = rw (to_z-of_z fr) (rw (u, v, to_z-of_z fx, to_z-of_z fy) at h)
+  operation m fr u v h = rw (to_z-of_z fr) (rw (u, v, to_z-of_z fx, to_z-of_z fy) at h)
 
   -- RNAND and RNOR: the inverse n of f's result r.
-  pub inverse : {m : ℕ} {r n : ℤ} → Keeps f → IsLimit m → Within m x → Within m y → SFits w32 r → SFits w32 n → Result f m (read x) (read y) r →
-      Inverse (read r) n → Result (λ u v. inverted m (f u v)) m x y (read n)
+  pub inverse : {m : ℕ} {r n : ℤ} → Keeps f → IsLimit m → Within m x → Within m y → SFits w32 r → SFits w32 n → r ≡ bitwise f m (read x) (read y) → Within m r →
+      ((m : ℕ) → Within m (read r) → n ≡ signed_of m (inverted m (bits_of m (read r)))) → read n ≡ bitwise (λ u v. inverted m (f u v)) m x y
   unfolding bitwise
-  inverse {m} {r} {n} keeps l hx hy fr fn h i =
-      let g = rw (to_z-of_z fx, to_z-of_z fy) at h in
-      let below = (kept keeps l (bits_lt m (one l) x hx) (bits_lt m (one l) y hy)).1 in
-      let within : Within m (read r) = rw (to_z-of_z fr) g.1 in
-      let same : bits_of m (read r) ≡ f (bits_of m x) (bits_of m y) = rw (to_z-of_z fr) (ap (bits_of m) g.0 ∙ bits_signed m _ below) in
-      rw (to_z-of_z fn) (i.0 m within ∙ ap (λ u. signed_of m (inverted m u)) same, i.1 m within)
+  inverse {m} {r} {n} keeps l hx hy fr fn e h i =
+      let g = rw (to_z-of_z fx, to_z-of_z fy) at e in
+      let below = kept keeps l (bits_lt m (one l) x hx) (bits_lt m (one l) y hy) in
+      let within : Within m (read r) = rw (to_z-of_z fr) h in
+      let same : bits_of m (read r) ≡ f (bits_of m x) (bits_of m y) = rw (to_z-of_z fr) (ap (bits_of m) g ∙ bits_signed m _ below) in
+      rw (to_z-of_z fn) (i m within ∙ ap (λ u. signed_of m (inverted m u)) same)
 
 -- RSL: a shift by one is doubling, and the double modulo 2^K is brought back by at most once 2^K.
 pub shifted : (x : ℤ) → mag x < 2 ^ 62 → to_z w64 (of_z w64 x * 2 % 2 ^ 64) ≡ x +ℤ x

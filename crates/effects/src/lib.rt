@@ -1,4 +1,6 @@
 // A plan carried out on the slices that are lent.
+#![tactic(auto)]
+
 ghost use Rattle.std.specs.Prelude.{◌≡◌, ◌<◌, ◌≤◌, [], ◌∷◌, length, replicate, pos};
 ghost use Rattle.plans.specs.Plans.{value_out, registers_after, cells_after, values_of};
 ghost use Rattle.effects.specs.Effects.{output_after, Indexed};

@@ -1,4 +1,6 @@
 // Looks and steps until one of the endings holds.
+#![tactic(auto)]
+
 pub mod looks;
 
 ghost use Rattle.model.specs.Step.{as_memory, environment_of};
@@ -10,7 +12,7 @@ use operands::Core;
 use steps::step;
 
 // How a run ended, where the machine stands, the cycles spent since start, and the count of the values written.
-#[derive(Drop)]
+#[derive(Clone, Copy)]
 pub struct Ran {
     pub ending: Ending,
     pub core: Core,

@@ -13,7 +13,7 @@ use operands::Core;
 use prices::{cost, value_count};
 
 // The instruction that would run, its cost, and how many values it writes.
-#[derive(Drop)]
+#[derive(Clone, Copy)]
 pub struct Offer {
     pub instruction: Instruction,
     pub cost: u64,
@@ -21,7 +21,7 @@ pub struct Offer {
 }
 
 // What is found before a step: the ending, or the step that may run.
-#[derive(Drop)]
+#[derive(Clone, Copy)]
 pub enum Found {
     Stops(Ending),
     Runs(Offer),

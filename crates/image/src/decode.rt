@@ -13,7 +13,7 @@ use model::Parameters;
 use model::words::{DIRECT, IAR, NUMBER, REGISTER, SHR};
 
 // An instruction's number and the words of its arguments; an absent one is 0.
-#[derive(Drop)]
+#[derive(Clone, Copy)]
 pub struct Instruction {
     pub number: u32,
     pub first: u32,
@@ -22,7 +22,7 @@ pub struct Instruction {
 }
 
 // What a cell is: an instruction, empty, or one that no text yields.
-#[derive(Drop)]
+#[derive(Clone, Copy)]
 pub enum Decoded {
     Runs(Instruction),
     Empty,

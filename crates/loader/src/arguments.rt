@@ -17,7 +17,7 @@ use text::bytes::upper;
 const WORDS: i64 = 0x1_0000_0000;
 
 // The word of an argument, or its fault: 13 or 14.
-#[derive(Drop)]
+#[derive(Clone, Copy)]
 pub enum WordOrFault {
     Word(u32),
     Fault(u32),

@@ -1,4 +1,6 @@
 // The loader: a TCL text into an image.
+#![tactic(auto)]
+
 pub mod arguments;
 pub mod line;
 pub mod names;

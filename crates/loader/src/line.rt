@@ -14,7 +14,7 @@ use model::Parameters;
 use text::words::next_word;
 
 // The words of a line's cell, or the line's fault: 11 to 14.
-#[derive(Drop)]
+#[derive(Clone, Copy)]
 pub enum Parsed {
     Words(u32, u32, u32, u32),
     Fault(u32),

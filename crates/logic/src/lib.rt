@@ -1,2 +1,4 @@
 // What the instructions make of Booleans, and comparisons.
+#![tactic(auto)]
+
 pub mod booleans;

@@ -1,4 +1,6 @@
 // Start and grant.
+#![tactic(auto)]
+
 pub mod checks;
 
 ghost use Rattle.std.specs.Prelude.{◌≡◌, true, [], ◌≤◌, pos, ◌-ℤ◌};

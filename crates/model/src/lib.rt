@@ -1,11 +1,13 @@
 // The public types of the TAK machine, and the record that start makes. What the machine means stands in specs/.
+#![tactic(auto)]
+
 ghost use Rattle.std.specs.Prelude.{◌≡◌};
 ghost use Rattle.model.specs.Calls.{fresh_record};
 
 pub mod words;
 
 // K, N, S, B and T: bits of a cell, registers, data cells, directly addressed cells, instruction cells.
-#[derive(Drop)]
+#[derive(Clone, Copy)]
 pub struct Parameters {
     pub k: u32,
     pub n: u32,
@@ -15,7 +17,7 @@ pub struct Parameters {
 }
 
 // The record: SHR is B-1 where the stack is empty, so that it is signed; `place` is the input place.
-#[derive(Drop)]
+#[derive(Clone, Copy)]
 pub struct Record {
     pub parameters: Parameters,
     pub iar: u32,
@@ -27,7 +29,7 @@ pub struct Record {
 }
 
 // How an accepted grant ends: "failed", "ended", "paused", "output full".
-#[derive(Drop)]
+#[derive(Clone, Copy)]
 pub enum Ending {
     Failed,
     Ended,
@@ -36,28 +38,28 @@ pub enum Ending {
 }
 
 // A refusal's number, or the ending of an accepted grant.
-#[derive(Drop)]
+#[derive(Clone, Copy)]
 pub enum Outcome {
     Refused(u32),
     Stopped(Ending),
 }
 
 // Load: the count of lines; or the refusal's number and the faulty line's index.
-#[derive(Drop)]
+#[derive(Clone, Copy)]
 pub enum LoadReply {
     Accepted(usize),
     Refused(u32, usize),
 }
 
 // Start: the refusal's number, 0 if there is none, and the record.
-#[derive(Drop)]
+#[derive(Clone, Copy)]
 pub struct StartReply {
     pub refusal: u32,
     pub rec: Record,
 }
 
 // Grant: what came of it, the record, the number of values written and the cycles spent in this call.
-#[derive(Drop)]
+#[derive(Clone, Copy)]
 pub struct GrantReply {
     pub outcome: Outcome,
     pub rec: Record,
@@ -66,7 +68,7 @@ pub struct GrantReply {
 }
 
 // The decimal writer: the refusal's number, 0 if there is none, and the count of bytes written.
-#[derive(Drop)]
+#[derive(Clone, Copy)]
 pub struct DecimalReply {
     pub refusal: u32,
     pub count: usize,

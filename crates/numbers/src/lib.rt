@@ -1,2 +1,4 @@
 // Decimal numbers, read from a word.
+#![tactic(auto)]
+
 pub mod reading;

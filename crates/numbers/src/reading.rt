@@ -10,14 +10,14 @@ use text::bytes::is_digit;
 const CAP: u64 = 1073741824;
 
 // The value of digits, at most CAP, or that they are none.
-#[derive(Drop)]
+#[derive(Clone, Copy)]
 pub enum Digits {
     Value(u64),
     Invalid,
 }
 
 // What a word says as a number.
-#[derive(Drop)]
+#[derive(Clone, Copy)]
 pub enum Reading {
     NotANumber,
     Number(i32),

@@ -1,4 +1,6 @@
 // Where the machine stands between two steps, and the operands of a step.
+#![tactic(auto)]
+
 ghost use Rattle.std.specs.Prelude.{◌≡◌, [], pos, slice_index_or};
 ghost use Rattle.model.specs.Step.{register_value, value_of};
 ghost use Rattle.operands.specs.Cores.{state_of, Bounded};
@@ -7,7 +9,7 @@ use image::words::{content, number};
 use model::words::{FIRST_DIRECT, FIRST_NUMBER, FIRST_REGISTER, IAR, IRCR, SHR};
 
 // IAR, IRCR, the input place, and `top`, which is SHR + 1 and so never negative.
-#[derive(Drop)]
+#[derive(Clone, Copy)]
 pub struct Core {
     pub iar: usize,
     pub ircr: u32,

@@ -1,4 +1,6 @@
 // What a step comes to, as numbers alone.
+#![tactic(auto)]
+
 ghost use Rattle.std.specs.Prelude.{◌≡◌, ◌+◌, ◌≤◌, pos, length};
 ghost use Rattle.bounds.specs.Bounds.{IsLimit};
 ghost use Rattle.plans.specs.Plans.{kept_plan, failed_plan, written_plan, computed_plan, jump_plan, taken_plan, boolean_plan, push_plan, pop_plan, input_plan};
@@ -15,7 +17,7 @@ const SHR_WORD: u32 = FIRST_REGISTER + SHR;
 
 // A value, where it goes, and where the machine stands after the step. A failing step has its code in `next.ircr`, and nothing else counts.
 // `to` is the word of a register or data cell, or one of the targets below, which are smaller.
-#[derive(Drop)]
+#[derive(Clone, Copy)]
 pub struct Plan {
     pub value: i32,
     pub to: u32,

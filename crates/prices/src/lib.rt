@@ -1,4 +1,6 @@
 // The prices of the instructions, as a table that a call makes once and lends, and the values that they write.
+#![tactic(auto)]
+
 ghost use Rattle.std.specs.Prelude.{◌≡◌, true, ◌≤◌, ◌<◌, length, get_or};
 ghost use Rattle.model.specs.Instructions.{row_of, directs, cost_of, is_direct};
 ghost use Rattle.model.specs.Images.{cell_fits};

@@ -10,7 +10,7 @@ use machine::{grant, start};
 use model::{Ending, GrantReply, LoadReply, Outcome, Parameters, Record};
 
 // A case but for its text: the parameters, the lengths of the slices, the input's own bytes and those beyond, and the count of calls.
-#[derive(Drop)]
+#[derive(Clone, Copy)]
 pub struct Case {
     pub parameters: Parameters,
     pub words: usize,
@@ -22,7 +22,7 @@ pub struct Case {
 }
 
 // A call, and the place behind it.
-#[derive(Drop)]
+#[derive(Clone, Copy)]
 struct Call {
     kind: u64,
     index: u64,

@@ -2,6 +2,8 @@
 // values. Behind `calls` stand twelve numbers: K N S B T, the lengths of the image, register and data slices, the bytes of a text, of an input and of
 // what the input has beyond them, and the count of calls; then LF, the text, the input and the calls. What the input has beyond its own bytes is what
 // follows them in the buffer.
+#![tactic(auto)]
+
 ghost use Rattle.std.specs.Prelude.{◌≡◌, ◌<◌, ◌≤◌, length};
 
 use crate::calls::{Case, run_text};

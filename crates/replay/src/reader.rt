@@ -5,14 +5,14 @@ use std::num::{wrapping_add_u64, wrapping_sub_u64};
 use text::tokens::next_token;
 
 // A number, and the place behind it.
-#[derive(Drop)]
+#[derive(Clone, Copy)]
 pub struct Number {
     pub value: u64,
     pub end: usize,
 }
 
 // The numbers before a text, and the place behind them.
-#[derive(Drop)]
+#[derive(Clone, Copy)]
 pub struct Header {
     pub fields: [u32; 12],
     pub end: usize,

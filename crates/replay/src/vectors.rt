@@ -11,7 +11,7 @@ use numbers::reading::{Reading, read_number};
 use text::tokens::next_token;
 
 // A value, and the place behind it.
-#[derive(Drop)]
+#[derive(Clone, Copy)]
 struct Operand {
     value: i32,
     end: usize,

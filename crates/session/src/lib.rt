@@ -1,4 +1,6 @@
 // What takrun does with the contents of its files: load and start, then a grant at a time, with the lines that it prints.
+#![tactic(auto)]
+
 pub mod printing;
 
 ghost use Rattle.std.specs.Prelude.{true, false, [], ◌≡◌, ◌+◌, ◌≤◌, length};
@@ -14,7 +16,7 @@ use machine::{grant, start};
 use model::{Ending, GrantReply, LoadReply, Outcome, Parameters, Record};
 
 // After a call: the bytes of its lines, and whether a grant follows, of which record and cycles.
-#[derive(Drop)]
+#[derive(Clone, Copy)]
 pub struct Report {
     pub count: usize,
     pub more: bool,

@@ -6,7 +6,7 @@ use crate::transfers::Transfer;
 use crate::{Scan, scan_chunk};
 
 // The scan of the bytes so far, and how many reads may follow.
-#[derive(Drop)]
+#[derive(Clone, Copy)]
 pub struct Intake {
     pub scan: Scan,
     pub calls: u64,

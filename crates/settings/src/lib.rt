@@ -1,4 +1,6 @@
 // The five parameters of `tak.par`, whose bytes come in chunks; and what calls of read and write come to.
+#![tactic(auto)]
+
 mod intakes;
 mod transfers;
 
@@ -13,7 +15,7 @@ pub use transfers::{Transfer, after_call, contents};
 
 // What the bytes so far come to: the last five words that ended, how many ended, and the digits of the word that has not, with their value.
 // A count of VOID stands for more than five words or a word that is not 1 to 9 digits.
-#[derive(Drop)]
+#[derive(Clone, Copy)]
 pub struct Scan {
     pub last: Parameters,
     pub count: u32,

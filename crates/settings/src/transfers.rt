@@ -3,7 +3,7 @@ ghost use Rattle.std.specs.Prelude.{◌≡◌, ◌≤◌, ◌<◌};
 ghost use Rattle.settings.specs.Transfers.{begun, advanced, halted, after_call, contents};
 
 // The bytes moved, whether a call failed, and how many calls may follow: none behind the end of a file, the end of the buffer or a failure.
-#[derive(Drop)]
+#[derive(Clone, Copy)]
 pub struct Transfer {
     pub count: usize,
     pub failed: bool,

@@ -1,4 +1,6 @@
 // The step.
+#![tactic(auto)]
+
 pub mod planner;
 
 ghost use Rattle.std.specs.Prelude.{[], length};

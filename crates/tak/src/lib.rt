@@ -1,5 +1,7 @@
 // The machine for callers from C, as include/tak.h declares it: numbers and lent slices. No exported call has a `requires`: what does not fit is refused.
 // The header's record slice is `fields` here, since contracts have another use for the word `record`.
+#![tactic(auto)]
+
 pub mod records;
 
 ghost use Rattle.std.specs.Prelude.{◌≡◌, []};
@@ -19,7 +21,7 @@ use writer::decimal::write_decimal;
 const REFUSED_RECORD_LENGTH: u32 = 100;
 
 // The numbers that load reports.
-#[derive(Drop)]
+#[derive(Clone, Copy)]
 struct LoadNumbers {
     refusal: u32,
     lines: u64,
@@ -27,7 +29,7 @@ struct LoadNumbers {
 }
 
 // The numbers that grant reports.
-#[derive(Drop)]
+#[derive(Clone, Copy)]
 struct GrantNumbers {
     refusal: u32,
     ending: u32,

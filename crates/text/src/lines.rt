@@ -4,7 +4,7 @@ ghost use Rattle.model.specs.Load.{lines};
 ghost use Rattle.text.specs.Lines.{NoLineFeed, NextLine};
 
 // Where a line ends, and where the next one starts.
-#[derive(Drop)]
+#[derive(Clone, Copy)]
 pub struct Line {
     pub end: usize,
     pub next: usize,

@@ -6,7 +6,7 @@ ghost use Rattle.text.specs.Words.{Skipped, WordEnd, NextWord};
 use super::bytes::{is_comment, is_separator};
 
 // A part of a text, from `start` up to `end`.
-#[derive(Drop)]
+#[derive(Clone, Copy)]
 pub struct Span {
     pub start: usize,
     pub end: usize,

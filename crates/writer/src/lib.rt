@@ -1,3 +1,5 @@
 // The decimal writer.
+#![tactic(auto)]
+
 pub mod decimal;
 pub mod natural;

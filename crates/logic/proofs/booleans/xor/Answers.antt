@@ -1,0 +1,9 @@
+use mathlib.Core.Bool.{xor}
+use Rattle.logic.proofs.Combined.{combine}
+use Rattle.logic.proofs.booleans.xor.Goals as goal
+
+pub returns : goal.returns
+unfolding xor
+returns c =
+    let s = c in
+    combine s.ranges.x s.ranges.y xor c.is_true.ensures c.is_true-2.ensures c.combined.ensures

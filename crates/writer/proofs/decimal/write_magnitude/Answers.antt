@@ -1,0 +1,12 @@
+-- `decimal::write_magnitude` meets its contract. Assumes nothing.
+use Prim.Native.Nat.{suc}
+use mathlib.Core.List.{[]}
+use native.Mathlib.Omega.{arith}
+use Rattle.model.proofs.Decimals.{digits-at-most}
+use Rattle.writer.proofs.decimal.write_magnitude.Goals as goal
+
+pub write_digits-requires : goal.write_digits-requires
+write_digits-requires c =
+    let n = c.args.n in
+    let e = c.digit_count-count.ensures in
+    (e, omega (arith, e, digits-at-most (suc n) n (omega arith) 9 [] (omega arith)))
