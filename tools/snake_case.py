@@ -90,8 +90,8 @@ def turn(text, table, fall, where):
     def other(piece):
         return NAME.sub(lambda m: table.get(m.group(0), m.group(0)), piece)
 
-    # Quoted text stays.
-    pieces = re.split(r'("(?:[^"\\\n]|\\.)*")', text)
+    # Quoted text and characters stay.
+    pieces = re.split(r"""("(?:[^"\\\n]|\\.)*"|\bb'(?:[^'\\\n]|\\.)')""", text)
     return "".join(p if i % 2 else other(p) for i, p in enumerate(pieces))
 
 

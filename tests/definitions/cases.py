@@ -207,43 +207,41 @@ outcome (Stopped e) = pos (ending e) ∷ []
 
 flat : Record → List ℤ
 flat r =
-    pos (r .parameters .k) ∷ pos (r .parameters .n) ∷ pos (r .parameters .s) ∷ pos (r .parameters .b) ∷ pos (r .parameters .t)
-    ∷ pos (r .iar) ∷ pos (r .ircr) ∷ r .shr ∷ pos (r .place) ∷ pos (r .granted) ∷ pos (r .spent) ∷ []
+    pos r.parameters.k ∷ pos r.parameters.n ∷ pos r.parameters.s ∷ pos r.parameters.b ∷ pos r.parameters.t
+    ∷ pos r.iar ∷ pos r.ircr ∷ r.shr ∷ pos r.place ∷ pos r.granted ∷ pos r.spent ∷ []
 
 loads : Parameters → List ℕ → List ℕ → List ℤ
 loads p text old =
-    let r = loadReply p text old in
-    map pos ((loadNumbers r .refusal ∷ loadNumbers r .lines ∷ loadNumbers r .line ∷ []) ++ imageAfter p text old r)
+    let r = load_reply p text old in
+    map pos (((load_numbers r).refusal ∷ (load_numbers r).lines ∷ (load_numbers r).line ∷ []) ++ image_after p text old r)
 
 starts : Parameters → List ℕ → List ℤ → List ℤ → List ℤ
 starts p image registers cells =
-    let x = started (environmentOf p image []) (asMemory registers cells) in
-    (pos (x .reply .refusal) ∷ flat (x .reply .rec)) ++ x .memory .registers ++ x .memory .cells
+    let x = started (environment_of p image []) (as_memory registers cells) in
+    (pos x.reply.refusal ∷ flat x.reply.rec) ++ x.memory.registers ++ x.memory.cells
 
 spells : ℤ → List ℕ → List ℤ
-spells z old = let x = spelled z old in map pos ((x .reply .refusal ∷ x .reply .count ∷ []) ++ x .bytes)
+spells z old = let x = spelled z old in map pos ((x.reply.refusal ∷ x.reply.count ∷ []) ++ x.bytes)
 
 grants : List ℕ → List ℕ → Record → List ℤ → List ℤ → ℕ → List ℤ → List ℤ
 grants image input r registers cells cycles slice =
-    let x = granted (environmentOf (r .parameters) image input) (asHeld r registers cells) (asCall cycles slice) in
-    outcome (x .reply .outcome) ++ flat (x .reply .rec) ++ (pos (x .reply .values) ∷ pos (x .reply .cycles) ∷ [])
-    ++ x .memory .registers ++ x .memory .cells ++ x .slice
+    let x = granted (environment_of r.parameters image input) (as_held r registers cells) (as_call cycles slice) in
+    outcome x.reply.outcome ++ flat x.reply.rec ++ (pos x.reply.values ∷ pos x.reply.cycles ∷ [])
+    ++ x.memory.registers ++ x.memory.cells ++ x.slice
 """
 
-USES = """use Prim.Native.Nat.{ℕ}
-use mathlib.Core.Path.{_≡_, refl}
+USES = """use Rattle.std.specs.Prelude.{ℕ, ◌≡◌, List, [], ◌∷◌, ◌++◌, map, ℤ, pos, negsuc}
 use mathlib.Core.Bool.{xor}
-use mathlib.Core.List.{List, [], _∷_, _++_, map}
-use lib.IntN.{ℤ, pos, negsuc}
-use Rattle·model·specs.specs.declared.Parameters.{Parameters}
-use Rattle·model·specs.specs.declared.Record.{Record}
-use Rattle·model·specs.specs.declared.Ending.{Ending}
-use Rattle·model·specs.specs.declared.Ending.the-variants.{Failed, Ended, Paused, OutputFull}
-use Rattle·model·specs.specs.declared.Outcome.{Outcome}
-use Rattle·model·specs.specs.declared.Outcome.the-variants.{Refused, Stopped}
-use Rattle·model·specs.specs.Load.{imageAfter}
-use Rattle·model·specs.specs.Step.{environmentOf, asMemory}
-use Rattle·model·specs.specs.Calls.{asHeld, asCall}"""
+use Rattle.std.proofs.Common.{refl}
+use Rattle.model.specs.declared.Parameters.{Parameters}
+use Rattle.model.specs.declared.Record.{Record}
+use Rattle.model.specs.declared.Ending.{Ending}
+use Rattle.model.specs.declared.Ending.TheVariants.{Failed, Ended, Paused, OutputFull}
+use Rattle.model.specs.declared.Outcome.{Outcome}
+use Rattle.model.specs.declared.Outcome.TheVariants.{Refused, Stopped}
+use Rattle.model.specs.Load.{image_after}
+use Rattle.model.specs.Step.{environment_of, as_memory}
+use Rattle.model.specs.Calls.{as_held, as_call}"""
 
 
 def main():
@@ -252,7 +250,7 @@ def main():
     for path in sorted(pathlib.Path(sys.argv[3]).glob("*.antt")):
         names = re.findall(r"^ *unfoldable pub (\S+) :", path.read_text(encoding="utf-8"), re.M)
         if names:
-            lines.append("use Rattle·model·specs.specs.%s.{%s}" % (path.stem, ", ".join(names)))
+            lines.append("use Rattle.model.specs.%s.{%s}" % (path.stem, ", ".join(names)))
             opened += names
     lines.append(HEAD)
     for i, (computed, said) in enumerate(calls(int(sys.argv[2]))):

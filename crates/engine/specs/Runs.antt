@@ -14,7 +14,7 @@ use Rattle.engine.specs.declared.Ran.{Ran}
 pub record Runnable (e : Environment) (m : ℕ) (prices : List ℕ) (start : Core) (before granted : ℕ) (memory : Memory) : Type 0 where
   pub fit : Fit e.parameters
   pub limit_is : m ≡ limit e.parameters.k
-  pub price_table_lem : prices ≡ price_table
+  pub prices_are : prices ≡ price_table
   pub image-length : length e.image ≡ 4 * e.parameters.t
   pub image-fits : image_fits e.parameters e.image ≡ true
   pub sound : Sound e (state_in start memory)

@@ -18,10 +18,9 @@ use Rattle.model.proofs.Refusals.{load-refused-first}
 use Rattle.loader.specs.Passes.{Filled}
 
 module _ (p : Parameters) (text old : List ℕ) where
-  -- A reply with the paper's numbers, and what else is promised.
-  pub answered : {X : Type 0} {r : LoadReply} → r ≡ load_reply p text old → X →
-      (r ≡ load_reply p text old) × ((load_numbers r ≡ numbers_of_load p text old) × X)
-  answered e x = (e, (ap load_numbers e ∙ load-numbers p text old, x))
+  -- A reply with the paper's numbers.
+  pub answered : {r : LoadReply} → r ≡ load_reply p text old → (r ≡ load_reply p text old) × (load_numbers r ≡ numbers_of_load p text old)
+  answered e = (e, ap load_numbers e ∙ load-numbers p text old)
 
   -- A refusal by the checks, and a text that they pass.
   refused : (r : ℕ) → ¬ (r ≡ 0) → refusal_of (load_checks p text old) ≡ r → Refused r 0 ≡ load_reply p text old

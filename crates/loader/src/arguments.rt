@@ -75,7 +75,7 @@ fn direct_word(w: &[u8], form: u32, p: Parameters) -> WordOrFault
     if w.len() < 2 {
         return WordOrFault::Fault(13);
     }
-    if upper(w[1]) != b'm' {
+    if upper(w[1]) != b'M' {
         return WordOrFault::Fault(13);
     }
     if form / 4 % 2 == 1 {
@@ -120,10 +120,10 @@ pub fn argument_word(w: &[u8], form: u32, p: Parameters, m: u32) -> WordOrFault
         return WordOrFault::Fault(13);
     }
     let b = upper(w[0]);
-    if b == b'r' {
+    if b == b'R' {
         return register_word(w, form, p);
     }
-    if b == b'd' {
+    if b == b'D' {
         return direct_word(w, form, p);
     }
     let r = special(w);

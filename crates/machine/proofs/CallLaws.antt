@@ -88,7 +88,7 @@ module _ (lent : Environment) (held : Held) (c : Call) where
           record {
             fit = fits.start.fit;
             limit_is = l;
-            price_table_lem = t;
+            prices_are = t;
             image-length = fits.start.image-length;
             image-fits = fits.start.image-fits;
             sound = rw at-start sound.state;

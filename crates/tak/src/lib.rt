@@ -1,5 +1,5 @@
-// The machine for callers from C, as include/tak.h declares it: numbers and lent slices. No exported call has a `requires`: what does not fit is refused.
-// The header's record slice is `fields` here, since contracts have another use for the word `record`.
+// The machine for callers from C, as include/tak.h declares it: numbers and lent slices. The crate tak_c exports these calls. No call has a `requires`:
+// what does not fit is refused. The header's record slice is `fields` here, since contracts have another use for the word `record`.
 #![tactic(auto)]
 
 pub mod records;
@@ -87,8 +87,7 @@ fn outcome_ending(o: Outcome) -> u32
 }
 
 // Loads a text into an image: the refusal or 0, the count of lines, the index of the faulty line.
-#[unsafe(no_mangle)]
-pub extern "C" fn tak_load(
+pub fn tak_load(
     k: u32,
     n: u32,
     s: u32,
@@ -110,8 +109,7 @@ pub extern "C" fn tak_load(
 }
 
 // Starts the machine: the refusal or 0, and the fresh record.
-#[unsafe(no_mangle)]
-pub extern "C" fn tak_start(
+pub fn tak_start(
     k: u32,
     n: u32,
     s: u32,
@@ -178,8 +176,7 @@ fn grant_to(
 }
 
 // Grants cycles: the refusal or 0, how it ended, the count of values in the output slice, the cycles spent in this call.
-#[unsafe(no_mangle)]
-pub extern "C" fn tak_grant(
+pub fn tak_grant(
     fields: &mut [i64],
     cycles: u64,
     image: &[u32],
@@ -210,8 +207,7 @@ pub extern "C" fn tak_grant(
 }
 
 // Writes a value in decimal: the refusal or 0, and the count of bytes.
-#[unsafe(no_mangle)]
-pub extern "C" fn tak_decimal(value: i32, bytes: &mut [u8], count: &mut u64) -> u32
+pub fn tak_decimal(value: i32, bytes: &mut [u8], count: &mut u64) -> u32
     ensures { tak_decimal value bytes.old ≡ record { number = result; count = count.new; bytes = bytes.new } }
 {
     let written = write_decimal(value, bytes);

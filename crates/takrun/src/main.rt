@@ -1,16 +1,20 @@
 // takrun: runs the program of the current folder. It reads `tak.par`, `tak.tcl` and `tak.in`; a file that is missing or cannot be read counts as empty.
 #![tactic(auto)]
 
-ghost use Rattle.std.specs.Prelude.{◌≡◌, ◌*◌, ◌≤◌, ◌<◌, length};
+ghost use Rattle.std.specs.Prelude.{◌≡◌, ◌↔◌, ◌*◌, ◌≤◌, ◌<◌, length, pos, negsuc, IsTrue, IfOk, IfErr};
+ghost use Rattle.std.specs.Io.{WritesAtMost};
+ghost use Rattle.std.specs.IoError.{error_kind};
 ghost use Rattle.model.specs.Program.{slice_values};
 ghost use Rattle.model.specs.Parameters.{max_registers, max_cells, max_instructions};
 ghost use Rattle.model.specs.Step.{as_memory};
 ghost use Rattle.session.specs.Sessions.{Sizes, size_of, lines_bytes};
 
-use libc::{EINTR, STDOUT_FILENO};
 use model::{Parameters, Record};
 use session::{Report, open, run_grant};
 use settings::{Intake, Scan, Transfer, after_call, contents, settings_of, take_piece};
+use std::io::{ErrorKind, Read, Write};
+use std::rt::Files;
+use std::{fs, io};
 
 // The greatest image, registers and data; the values of one grant, and the bytes of their lines with a last one.
 const MAX_WORDS: usize = 4 * Record::MAX_INSTRUCTIONS as usize;
@@ -26,75 +30,90 @@ const MAX_LINES: usize = 12 * MAX_VALUES + 80;
 // One byte more than a text or an input may have. One buffer serves all three files, one after the other.
 const MAX_BYTES: usize = Record::MAX_TEXT + 1;
 
-// A signal interrupted the call just made, if it failed.
-fn interrupted() -> bool {
-    os::errno() == EINTR
+// A signal interrupted the call, which moved nothing.
+fn interrupted(answer: &io::Result<usize>) -> bool
+    ensures { IfErr answer.now (λ e. IsTrue result ↔ (error_kind e ≡ ErrorKind.Interrupted)) }
+{
+    match answer {
+        Ok(_) => false,
+        Err(e) => e.kind() == ErrorKind::Interrupted,
+    }
+}
+
+// What the call answers in C: the count of the bytes that it moved, or -1.
+fn moved(answer: &io::Result<usize>, bytes: &[u8]) -> isize
+    requires { WritesAtMost answer.now bytes.now }
+    ensures ok { IfOk answer.now (λ n. result ≡ pos n) }
+    ensures err { IfErr answer.now (λ _. result ≡ negsuc 0) }
+{
+    match answer {
+        Ok(n) => *n as isize,
+        Err(_) => -1,
+    }
 }
 
 // The scan of `tak.par`, read piece by piece into the buffer.
-fn read_pieces(fd: i32, bytes: &mut [u8]) -> Scan
+fn read_pieces<R: Read>(file: &mut R, bytes: &mut [u8]) -> Scan
     requires { 0 < length bytes.old }
 {
     let mut intake = Intake::untaken();
     while 0 < intake.calls {
-        let got = libc::read(fd, bytes);
+        let answer = file.read(bytes);
         let piece = Transfer::begun(bytes.len());
-        let read = after_call(piece, got, interrupted(), bytes.len());
+        let got = moved(&answer, bytes);
+        let read = after_call(piece, got, interrupted(&answer), bytes.len());
         intake = take_piece(intake, read, bytes);
     }
     intake.scan
 }
 
-fn read_parameters(bytes: &mut [u8]) -> Parameters
+fn read_parameters<R: Files>(rt: &R, bytes: &mut [u8]) -> Parameters
     requires { 0 < length bytes.old }
 {
-    let fd = os::open_read(b"tak.par");
-    if fd < 0 {
-        return settings_of(Scan::unread());
+    match fs::open(rt, "tak.par") {
+        Ok(mut file) => settings_of(read_pieces(&mut file, bytes)),
+        Err(_) => settings_of(Scan::unread()),
     }
-    let scan = read_pieces(fd, bytes);
-    libc::close(fd);
-    settings_of(scan)
 }
 
 // Reads until the buffer is full or the file ends.
-fn read_all(fd: i32, bytes: &mut [u8]) -> usize
+fn read_all<R: Read>(file: &mut R, bytes: &mut [u8]) -> usize
     ensures { result ≤ length bytes.old }
 {
     let mut t = Transfer::begun(bytes.len());
     while 0 < t.calls {
         let from = t.count;
-        let got = libc::read(fd, &mut bytes[from..]);
-        t = after_call(t, got, interrupted(), bytes.len());
+        let answer = file.read(&mut bytes[from..]);
+        let got = moved(&answer, bytes);
+        t = after_call(t, got, interrupted(&answer), bytes.len());
     }
     contents(t)
 }
 
-fn read_file(path: &[u8], bytes: &mut [u8]) -> usize
+fn read_file<R: Files>(rt: &R, path: &str, bytes: &mut [u8]) -> usize
     ensures { result ≤ length bytes.old }
 {
-    let fd = os::open_read(path);
-    if fd < 0 {
-        return 0;
+    match fs::open(rt, path) {
+        Ok(mut file) => read_all(&mut file, bytes),
+        Err(_) => 0,
     }
-    let count = read_all(fd, bytes);
-    libc::close(fd);
-    count
 }
 
 // Writes all of the bytes, or says that it could not.
-fn print(bytes: &[u8]) -> bool {
+fn print<W: Write>(out: &mut W, bytes: &[u8]) -> bool {
     let mut t = Transfer::begun(bytes.len());
     while 0 < t.calls {
         let from = t.count;
-        let put = libc::write(STDOUT_FILENO, &bytes[from..]);
-        t = after_call(t, put, interrupted(), bytes.len());
+        let answer = out.write(&bytes[from..]);
+        let put = moved(&answer, bytes);
+        t = after_call(t, put, interrupted(&answer), bytes.len());
     }
     t.count == bytes.len()
 }
 
 // Grants as long as more follow. After a write that failed nothing more is written: the last line is missing, so that the loss can be seen.
-fn run_grants(
+fn run_grants<W: Write>(
+    out: &mut W,
     first: Report,
     image: &[u32],
     input: &[u8],
@@ -119,14 +138,15 @@ fn run_grants(
             lines,
         );
         let count = report.count;
-        if !print(&lines[..count]) {
+        if !print(out, &lines[..count]) {
             return;
         }
     }
 }
 
 // The text, loaded and started.
-fn load_text(
+fn load_text<R: Files>(
+    rt: &R,
     p: Parameters,
     bytes: &mut [u8],
     image: &mut [u32],
@@ -138,12 +158,14 @@ fn load_text(
     requires in_bounds { 80 ≤ length lines.old }
     ensures { result.count ≤ length lines.new }
 {
-    let count = read_file(b"tak.tcl", bytes);
+    let count = read_file(rt, "tak.tcl", bytes);
     open(p, &bytes[..count], image, registers, cells, lines)
 }
 
 // The input takes the text's place in the buffer.
-fn run_input(
+fn run_input<R: Files, W: Write>(
+    rt: &R,
+    out: &mut W,
     first: Report,
     bytes: &mut [u8],
     image: &[u32],
@@ -154,8 +176,9 @@ fn run_input(
 )
     requires { (length values.old ≡ slice_values) × (lines_bytes ≤ length lines.old) }
 {
-    let count = read_file(b"tak.in", bytes);
+    let count = read_file(rt, "tak.in", bytes);
     run_grants(
+        out,
         first,
         image,
         &bytes[..count],
@@ -166,7 +189,9 @@ fn run_input(
     )
 }
 
-fn run(
+fn run<R: Files, W: Write>(
+    rt: &R,
+    out: &mut W,
     p: Parameters,
     bytes: &mut [u8],
     image: &mut [u32],
@@ -178,11 +203,13 @@ fn run(
     requires sizes { Sizes p image.old (as_memory registers.old cells.old) }
     requires values_len { (length values.old ≡ slice_values) × (lines_bytes ≤ length lines.old) }
 {
-    let report = load_text(p, bytes, image, registers, cells, lines);
+    let report = load_text(rt, p, bytes, image, registers, cells, lines);
     let count = report.count;
     let more = report.more;
-    if print(&lines[..count]) && more {
-        run_input(report, bytes, image, registers, cells, values, lines)
+    if print(out, &lines[..count]) && more {
+        run_input(
+            rt, out, report, bytes, image, registers, cells, values, lines,
+        )
     }
 }
 
@@ -196,7 +223,9 @@ fn size_of(n: u32, most: usize) -> usize
 }
 
 // The slices of the parameters' lengths.
-fn run_slices(
+fn run_slices<R: Files, W: Write>(
+    rt: &R,
+    out: &mut W,
     p: Parameters,
     bytes: &mut [u8],
     image: &mut [u32],
@@ -212,6 +241,8 @@ fn run_slices(
     let n = size_of(p.n, MAX_REGISTERS);
     let s = size_of(p.s, MAX_CELLS);
     run(
+        rt,
+        out,
         p,
         bytes,
         &mut image[..words],
@@ -222,15 +253,17 @@ fn run_slices(
     )
 }
 
-fn main() {
+fn main(rt: HostRuntime) {
     let mut bytes = [0u8; MAX_BYTES];
-    let p = read_parameters(&mut bytes);
+    let p = read_parameters(&rt, &mut bytes);
     let mut image = [0u32; MAX_WORDS];
     let mut registers = [0i32; MAX_REGISTERS];
     let mut cells = [0i32; MAX_CELLS];
     let mut values = [0i32; MAX_VALUES];
     let mut lines = [0u8; MAX_LINES];
     run_slices(
+        &rt,
+        &mut rt.stdout(),
         p,
         &mut bytes,
         &mut image,

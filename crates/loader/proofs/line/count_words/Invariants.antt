@@ -1,9 +1,7 @@
 use Prim.Native.Nat.{◌+◌, ◌-◌, ◌≤◌}
-use mathlib.Core.Path.{◌≡◌, ap}
-use native.Mathlib.Omega.{arith}
+use mathlib.Core.Path.{◌≡◌}
 use lib.ListN.{length, drop}
 use Rattle.model.specs.Load.{words}
-use Rattle.text.proofs.Walks.{first_word}
 use Rattle.loader.proofs.line.count_words.Given as goal
 
 abbrev pub invariant-loop-w : goal.invariant-loop-w

@@ -1,8 +1,6 @@
-use mathlib.Core.Path.{◌≡◌, refl, sym, ap, ◌∙◌}
-use native.Mathlib.Omega.{arith}
-use lib.ListN.{length, length-set}
-use Rattle.loader.specs.Lines.{parsed_of}
-use Rattle.loader.proofs.LineLaws.{ArgumentsInvariant, at-start, slot_free, too_few, too_many, all_read, at-fault, at-word}
+use mathlib.Core.Path.{◌≡◌}
+use lib.ListN.{length}
+use Rattle.loader.proofs.LineLaws.{ArgumentsInvariant}
 use Rattle.loader.proofs.line.parse_arguments.Given as goal
 
 abbrev pub invariant-loop-rest : goal.invariant-loop-rest

@@ -1,10 +1,7 @@
-use Prim.Native.Nat.{◌-◌, ◌≤◌, ◌<◌}
-use mathlib.Core.Path.{◌≡◌, refl, sym, ◌∙◌}
-use native.Mathlib.Omega.{arith}
+use Prim.Native.Nat.{◌-◌, ◌≤◌}
+use mathlib.Core.Path.{◌≡◌}
 use lib.ListN.{length, drop}
-use borrow.Author.Rules.{rules}
 use Rattle.model.specs.Load.{same_word}
-use Rattle.loader.proofs.NameLaws.{other_length, same_end, same_byte, other_byte}
 use Rattle.loader.proofs.names.same_word.Given as goal
 
 abbrev pub invariant-loop-i : goal.invariant-loop-i

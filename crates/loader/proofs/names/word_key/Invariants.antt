@@ -1,11 +1,7 @@
-use Prim.Native.Nat.{ℕ, ◌+◌, ◌*◌, ◌-◌, ◌^◌, ◌≤◌, ◌<◌}
-use mathlib.Core.Path.{◌≡◌, refl, sym, ap, ◌∙◌}
-use native.Mathlib.Omega.{arith}
-use lib.Dec.{lit<}
+use Prim.Native.Nat.{◌+◌, ◌*◌, ◌-◌, ◌^◌, ◌≤◌, ◌<◌}
+use mathlib.Core.Path.{◌≡◌}
 use lib.ListN.{length, drop}
-use borrow.Author.Rules.{rules}
 use Rattle.loader.specs.Keys.{key_from, key_of}
-use Rattle.loader.proofs.NameLaws.{key-end, key_byte, key-bits, key_fits}
 use Rattle.loader.proofs.names.word_key.Given as goal
 
 abbrev pub invariant-loop-i : goal.invariant-loop-i

@@ -1,0 +1,19 @@
+use Prim.Native.Nat.{◌*◌, ◌^◌, ◌<◌, ◌-◌}
+use mathlib.Core.Path.{◌≡◌, refl, sym, ◌∙◌}
+use native.Mathlib.Nat.{le_refl}
+use native.Mathlib.Omega.{arith}
+use lib.ListN.{length}
+use Rattle.model.specs.Step.{as_memory, environment_of}
+use Rattle.engine.specs.declared.looks.Found.TheVariants.{Runs}
+use Rattle.engine.specs.Runs.{Runnable}
+use Rattle.engine.proofs.RunLaws.{found, RunInvariant, begins, stopped, cost-paid, cost-some, room_for, steppable, goes_on}
+use Rattle.engine.proofs.run.Given as goal
+
+abbrev pub invariant-loop-ending : goal.invariant-loop-ending
+invariant-loop-ending l =
+    Runnable (environment_of l.p l.image l.input) l.m l.prices l.initial.at l.initial.spent l.granted (as_memory l.initial.registers l.initial.cells)
+    × RunInvariant (environment_of l.p l.image l.input) l.initial.at l.initial.spent l.granted (as_memory l.initial.registers l.initial.cells) l.initial.out l.at l.spent l.count (as_memory l.registers l.cells) l.out
+
+abbrev pub decreases-loop-ending : goal.decreases-loop-ending
+decreases-loop-ending l =
+    l.granted - l.spent
