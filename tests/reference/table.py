@@ -8,7 +8,7 @@ import re
 import sys
 
 LETTERS = {"R": 1, "X": 2, "D": 4, "N": 8}  # of the reference, as the definitions number the forms
-MULTIPLIERS = {"one": "", "byRegisters": "·N", "byCells": "·S"}
+MULTIPLIERS = {"one": "", "by_registers": "·N", "by_cells": "·S"}
 
 
 def read(path):

@@ -4,7 +4,7 @@ use mathlib.Core.List.{List, [], ◌∷◌}
 use mathlib.Core.Path.{◌≡◌, refl, sym, ap, ◌∙◌}
 use Rattle.model.proofs.Demand.{demand3}
 use Rattle.model.proofs.Refusals.{start-number}
-use Rattle.model.specs.Calls.{Held, environment_for, start_checks, Started, started, held_after_start, Granted, granted}
+use Rattle.model.specs.Calls.{held_after, Held, environment_for, start_checks, Started, started, held_after_start, Granted, granted}
 use Rattle.model.specs.Demand.{all_granted, held_after_all, Demand3}
 use Rattle.model.specs.Grants.{Call}
 use Rattle.model.specs.Step.{Environment, Memory, environment_of}
@@ -37,7 +37,7 @@ module _ (e : Environment) where
   pub some_chain : (h : Held) (calls : List Call) → Chain e h calls (all_granted e h calls) (held_after_all e h calls)
   unfolding all_granted held_after_all
   some_chain h [] = nothing
-  some_chain h (c ∷ cs) = called (promised (environment_for e h) h c (sym (own-parameters e h c))) (some_chain _ cs)
+  some_chain h (c ∷ cs) = called (promised (environment_for e h) h c (sym (own-parameters e h c))) (some_chain (held_after (granted e h c)) cs)
 
 -- Start reads no input.
 pub input-unread : (e : Environment) (m : Memory) → started (environment_of e.parameters e.image []) m ≡ started e m
