@@ -3,7 +3,7 @@
 # make install    library, header, tak.pc, takrun, its manual page, documents and the Rust package, below PREFIX and inside DESTDIR
 # make uninstall  removes them; with the same PREFIX and DESTDIR
 # make bench      times against a plain interpreter
-# make clean      removes what was built
+# make clean      removes what was built, and what rt keeps of its proofs
 
 PREFIX = /usr/local
 BINDIR = $(PREFIX)/bin
@@ -19,7 +19,7 @@ INSTALL = install
 # The header has the version.
 VERSION := $(shell sed -n 's/^.define TAK_VERSION "\(.*\)"$$/\1/p' include/tak.h)
 # Folders too, since a file that is gone changes only its folder.
-CRATES := crates.txt $(shell find crates -name must-fail -prune -o \( -type d -o -name '*.rt' -o -name '*.antt' \) -print)
+CRATES := crates.txt tools/build $(shell find crates/*/src crates/*/specs crates/*/proofs -type d -o -name '*.rt' -o -name '*.antt')
 DOCUMENTS = docs/CALLS.md docs/TCL.md CHANGELOG.md callers/c/count.c callers/c/slices.c
 PACKAGE = callers/rust
 PACKAGE_FILES = Cargo.toml Cargo.lock build.rs $(patsubst $(PACKAGE)/%,%,$(wildcard $(PACKAGE)/src/*.rs $(PACKAGE)/examples/*.rs))
@@ -27,8 +27,8 @@ PACKAGE_FILES = Cargo.toml Cargo.lock build.rs $(patsubst $(PACKAGE)/%,%,$(wildc
 FILLED_IN = sed -e 's|@VERSION@|$(VERSION)|g' -e 's|@PREFIX@|$(PREFIX)|g' \
     -e 's|@INCLUDEDIR@|$(patsubst $(PREFIX)/%,$${prefix}/%,$(INCLUDEDIR))|g' -e 's|@LIBDIR@|$(patsubst $(PREFIX)/%,$${prefix}/%,$(LIBDIR))|g'
 
-.PHONY: all library program check install uninstall bench clean plain_folders
-# rt keeps its results in one folder.
+.PHONY: all library program reports check install uninstall bench clean plain_folders
+# One rt works in a crate at a time, and a second would wait.
 .NOTPARALLEL:
 
 all: library program
@@ -37,16 +37,17 @@ library: target/staticlib/libtak.a
 
 program: target/bin/takrun
 
-# rt does not write anew what did not change. So the file gets the time at which rt began: what changes while it runs is newer.
-target/staticlib/libtak.a: $(CRATES)
-	@mkdir -p target && touch target/library.begun
-	rt staticlib tak
-	@touch -r target/library.begun $@
+# target/log/NAME of what is built says which C functions its proof rests on; with these there is one for each program and for the library.
+reports: library program target/bin/replay
 
-target/bin/takrun: $(CRATES)
-	@mkdir -p target && touch target/program.begun
-	rt check takrun
-	@touch -r target/program.begun $@
+# The gate sets this, so that what it has proved is not proved again.
+BUILD_WORDS =
+
+target/staticlib/libtak.a: $(CRATES)
+	bash tools/build $(BUILD_WORDS) tak_c $@
+
+target/bin/takrun target/bin/replay: target/bin/%: $(CRATES)
+	bash tools/build $(BUILD_WORDS) $* $@
 
 check:
 	bash .ci/run
@@ -84,4 +85,4 @@ bench:
 	bash bench/run
 
 clean:
-	rm -rf target
+	rm -rf target crates/*/out

@@ -1,6 +1,6 @@
-"""Compares the functions that the crate tak exports with their declarations: names, order, types, constness, lengths of slices, result; and the
-header's constants with those of the Rust package, by which tests/model reads records and endings, with the source's, and with the numbers that
-docs/CALLS.md has beside them.
+"""Compares the functions that the crate tak_c exports with their declarations: names, order, types, constness, lengths of slices, result; with the
+calls of the crate tak behind them, whose parameters and clauses they state word for word; and the header's constants with those of the Rust package, by
+which tests/model reads records and endings, with the source's, and with the numbers that docs/CALLS.md has beside them.
 
 A function in one form: its name, its result, and of each parameter the name, what it is ("" a number, "in" a pointer that the call reads
 through, "out" one that it may write through) and the type of the number. A slice is two parameters, a pointer and its length.
@@ -9,6 +9,7 @@ import glob
 import re
 import sys
 
+EXPORTS = "crates/tak_c/src/*.rt"
 SOURCES = "crates/tak/src/*.rt"
 LIMITS = "crates/model/src/lib.rt"
 HEADER = "include/tak.h"
@@ -58,10 +59,29 @@ def source_parameters(parameters):
 
 def of_source(text):
     """The functions that Rattle source exports."""
-    found = re.findall(r'#\[no_mangle\]\npub extern "C" fn (\w+)\(([^)]*)\)(?: -> (\w+))?\n', text)
+    found = re.findall(r'#\[unsafe\(no_mangle\)\]\npub extern "C" fn (\w+)\(([^)]*)\)(?: -> (\w+))?\n', text)
     if len(found) != len(re.findall(r'no_mangle|extern "C" fn', re.sub(r"//.*", "", text))) / 2:
         raise ValueError("an exported function in another form")
     return {name: (result or "nothing", list(source_parameters(parameters))) for name, parameters, result in found}
+
+
+def statements(text):
+    """What each public function tak_.. of Rattle source states: its parameters, result and clauses, as one line; and its body, without blanks."""
+    found = re.findall(r'^pub (?:extern "C" )?fn (tak_\w+)(\(.*?)^\{\n(.*?)^\}$', text, re.M | re.S)
+    return {name: (" ".join(stated.split()), "".join(body.split()).replace(",)", ")")) for name, stated, body in found}
+
+
+def other_statements(exports, source):
+    """A line for each exported function that states something else than the call of the crate tak behind it, or does something else than call it."""
+    here, there = statements(exports), statements(source)
+    if not here or here.keys() != there.keys():
+        return [f"exported are {sorted(here)}, and the crate tak has {sorted(there)}"]
+    wrong = [f"{name} states something else than the crate tak's" for name in here if here[name][0] != there[name][0]]
+    for name, (stated, body) in here.items():
+        names = ",".join(re.findall(r"(\w+):", stated[: stated.index(")")]))
+        if body != f"tak::{name}({names})":
+            wrong.append(f"{name} is not just the call of the crate tak's")
+    return wrong
 
 
 def c_parameter(text):
@@ -229,7 +249,16 @@ def altered_sources(text):
     for name in ("tak_load", "tak_start"):
         yield f"{name} with n and b exchanged in the source", replaced(text, right, wrong, f"fn {name}(")
     yield "a slice that may be written in the source", replaced(text, "image: &[u32]", "image: &mut [u32]", "fn tak_start(")
-    yield "a function that is exported no longer", replaced(text, '#[no_mangle]\npub extern "C" fn tak_decimal', "fn tak_decimal")
+    yield "a function that is exported no longer", replaced(text, '#[unsafe(no_mangle)]\npub extern "C" fn tak_decimal', "fn tak_decimal")
+
+
+def altered_statements(text):
+    yield "a clause without its old buffer", replaced(text, "tak_decimal value bytes.old", "tak_decimal value bytes.new")
+    yield "a clause less", re.sub(r"    ensures \{ tak_decimal .*\n", "", text)
+    yield "two arguments exchanged", replaced(text, "tak::tak_load(k, n, s", "tak::tak_load(k, s, n")
+    yield "another call behind it", replaced(text, "tak::tak_decimal(value, bytes, count)", "tak::tak_decimal(value + 1, bytes, count)")
+    yield "a parameter with another name", text.replace("image: &[u32]", "picture: &[u32]").replace("image.now", "picture.now")
+    yield "a call less", text[: text.rindex("// Writes a value")]
 
 
 def altered_constants(text):
@@ -246,10 +275,10 @@ def altered_constants(text):
 
 
 def main():
-    source = "".join(read(path) for path in sorted(glob.glob(SOURCES)))
+    exports, source = ("".join(read(path) for path in sorted(glob.glob(pattern))) for pattern in (EXPORTS, SOURCES))
     header = read(HEADER)
     rust = {path: read(path) for pattern in RUST for path in sorted(glob.glob(pattern, recursive=True))}
-    exported = of_source(source)
+    exported = of_source(exports)
     in_rust = {path: of_rust(text) for path, text in rust.items()}
     in_rust = {path: functions for path, functions in in_rust.items() if functions}
     passed, wrong = 0, []
@@ -267,6 +296,7 @@ def main():
     count([] if in_rust else ["no Rust file declares the functions"])
     for path, functions in in_rust.items():
         count([f"{path}: {line}" for line in differences(exported, functions)])
+    count([f"crates/tak_c: {line}" for line in other_statements(exports, source)])
     numbers = source_constants(source, read(LIMITS))
     count([f"{HEADER}: {line}" for line in other_constants(header, rust[PACKAGE], numbers)])
     page = read(PAGE)
@@ -285,8 +315,10 @@ def main():
         for path in in_rust:
             for what, text in altered_rust(rust[path]):
                 found(f"{what} ({path})", differences(exported, of_rust(text)))
-        for what, text in altered_sources(source):
+        for what, text in altered_sources(exports):
             found(what, differences(of_source(text), of_header(header)))
+        for what, text in altered_statements(exports):
+            found(what, other_statements(text, source))
     for line in wrong:
         print(f"header: {line}")
     print(f"{passed} passed, {len(wrong)} failed")

@@ -3,7 +3,7 @@
 ghost use Rattle.std.specs.Prelude.{◌≤◌, length};
 
 use crate::images::put_image;
-use crate::printer::{put, put_end, put_signed, put_values};
+use crate::printer::{Printer, put, put_end, put_signed, put_values};
 use crate::reader::{at_most, low, read_next, signed, signed_low};
 use loader::load;
 use machine::{grant, start};
@@ -31,38 +31,38 @@ struct Call {
 }
 
 // The paper's numbers of a reply: refusal, count of lines, index of the faulty line.
-fn put_loaded(reply: LoadReply) {
+fn put_loaded(to: &mut Printer, reply: LoadReply) {
     match reply {
         LoadReply::Accepted(n) => {
-            put(0);
-            put(n as u64);
-            put(0);
+            put(to, 0);
+            put(to, n as u64);
+            put(to, 0);
         }
         LoadReply::Refused(k, i) => {
-            put(k as u64);
-            put(0);
-            put(i as u64);
+            put(to, k as u64);
+            put(to, 0);
+            put(to, i as u64);
         }
     }
-    put_end();
+    put_end(to);
 }
 
-fn put_parameters(p: Parameters) {
-    put(p.k as u64);
-    put(p.n as u64);
-    put(p.s as u64);
-    put(p.b as u64);
-    put(p.t as u64);
+fn put_parameters(to: &mut Printer, p: Parameters) {
+    put(to, p.k as u64);
+    put(to, p.n as u64);
+    put(to, p.s as u64);
+    put(to, p.b as u64);
+    put(to, p.t as u64);
 }
 
-fn put_record(rec: Record) {
-    put_parameters(rec.parameters);
-    put(rec.iar as u64);
-    put(rec.ircr as u64);
-    put_signed(rec.shr);
-    put(rec.place as u64);
-    put(rec.granted);
-    put(rec.spent);
+fn put_record(to: &mut Printer, rec: Record) {
+    put_parameters(to, rec.parameters);
+    put(to, rec.iar as u64);
+    put(to, rec.ircr as u64);
+    put_signed(to, rec.shr);
+    put(to, rec.place as u64);
+    put(to, rec.granted);
+    put(to, rec.spent);
 }
 
 // 1 failed, 2 ended, 3 paused, 4 output full.
@@ -76,26 +76,26 @@ fn ending_number(e: Ending) -> u64 {
 }
 
 // The refusal and the ending, 0 for the one that there is not.
-fn put_outcome(o: Outcome) {
+fn put_outcome(to: &mut Printer, o: Outcome) {
     match o {
         Outcome::Refused(k) => {
-            put(k as u64);
-            put(0);
+            put(to, k as u64);
+            put(to, 0);
         }
         Outcome::Stopped(e) => {
-            put(0);
-            put(ending_number(e));
+            put(to, 0);
+            put(to, ending_number(e));
         }
     }
 }
 
-fn put_granted(reply: GrantReply) {
+fn put_granted(to: &mut Printer, reply: GrantReply) {
     let outcome = reply.outcome;
-    put_outcome(outcome);
-    put_record(reply.rec);
-    put(reply.values as u64);
-    put(reply.cycles);
-    put_end();
+    put_outcome(to, outcome);
+    put_record(to, reply.rec);
+    put(to, reply.values as u64);
+    put(to, reply.cycles);
+    put_end(to);
 }
 
 // The call at p.
@@ -169,19 +169,26 @@ fn set_memory(c: Call, image: &mut [u32], registers: &mut [i32], cells: &mut [i3
 }
 
 // What start gives, and its record.
-fn run_start(p: Parameters, image: &[u32], registers: &mut [i32], cells: &mut [i32]) -> Record {
+fn run_start(
+    to: &mut Printer,
+    p: Parameters,
+    image: &[u32],
+    registers: &mut [i32],
+    cells: &mut [i32],
+) -> Record {
     let reply = start(p, image, registers, cells);
     let rec = reply.rec;
-    put(reply.refusal as u64);
-    put_record(rec);
-    put_end();
-    put_values(registers);
-    put_values(cells);
+    put(to, reply.refusal as u64);
+    put_record(to, rec);
+    put_end(to);
+    put_values(to, registers);
+    put_values(to, cells);
     rec
 }
 
 // What a grant gives, and its record.
 fn run_grant(
+    to: &mut Printer,
     cycles: u64,
     rec: Record,
     image: &[u32],
@@ -191,15 +198,16 @@ fn run_grant(
     out: &mut [i32],
 ) -> Record {
     let reply = grant(rec, cycles, image, input, registers, cells, out);
-    put_granted(reply);
-    put_values(registers);
-    put_values(cells);
-    put_values(out);
+    put_granted(to, reply);
+    put_values(to, registers);
+    put_values(to, cells);
+    put_values(to, out);
     reply.rec
 }
 
 // A grant with an output slice of at most 64 values, each 77 before the call.
 fn run_in_room(
+    to: &mut Printer,
     c: Call,
     rec: Record,
     image: &[u32],
@@ -210,6 +218,7 @@ fn run_in_room(
     let room = at_most(c.index, 64);
     let mut out = [77i32; 64];
     run_grant(
+        to,
         c.value,
         rec,
         image,
@@ -222,6 +231,7 @@ fn run_in_room(
 
 // The record behind a call or a change.
 fn run_call(
+    to: &mut Printer,
     c: Call,
     p: Parameters,
     rec: Record,
@@ -232,16 +242,16 @@ fn run_call(
 ) -> Record {
     let kind = c.kind;
     if kind == 0 {
-        return run_start(p, image, registers, cells);
+        return run_start(to, p, image, registers, cells);
     }
     if kind == 1 {
-        return run_in_room(c, rec, image, input, registers, cells);
+        return run_in_room(to, c, rec, image, input, registers, cells);
     }
     if kind == 2 {
         return with_field(rec, c.index, c.value);
     }
     if kind == 6 {
-        put_image(p, image);
+        put_image(to, p, image);
         return rec;
     }
     set_memory(c, image, registers, cells);
@@ -250,6 +260,7 @@ fn run_call(
 
 // The calls from p on, and the place behind them.
 fn run_calls(
+    to: &mut Printer,
     t: &[u8],
     p: usize,
     c: Case,
@@ -266,7 +277,7 @@ fn run_calls(
     let mut left = c.calls;
     while 0 < left {
         let call = read_call(t, at);
-        rec = run_call(call, c.parameters, rec, image, input, registers, cells);
+        rec = run_call(to, call, c.parameters, rec, image, input, registers, cells);
         at = call.end;
         left -= 1;
     }
@@ -275,6 +286,7 @@ fn run_calls(
 
 // What load gives, and the calls at p; the place behind them.
 pub fn run_text(
+    to: &mut Printer,
     t: &[u8],
     p: usize,
     c: Case,
@@ -287,6 +299,6 @@ pub fn run_text(
     requires { p ≤ length t.now }
     ensures { (p ≤ result) × (result ≤ length t.now) }
 {
-    put_loaded(load(c.parameters, text, image));
-    run_calls(t, p, c, image, input, registers, cells)
+    put_loaded(to, load(c.parameters, text, image));
+    run_calls(to, t, p, c, image, input, registers, cells)
 }

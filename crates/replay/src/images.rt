@@ -4,7 +4,7 @@ ghost use Rattle.model.specs.Parameters.{limit, Fit};
 ghost use Rattle.image.specs.Forms.{form_table};
 ghost use Rattle.prices.specs.Prices.{price_table};
 
-use crate::printer::{put, put_end};
+use crate::printer::{Printer, put, put_end, put_text};
 use bounds::limits::{limit_of, parameter_refusal};
 use image::check::image_fits;
 use image::decode::{Decoded, decode};
@@ -14,22 +14,22 @@ use model::Parameters;
 use prices::{cost, price_table, value_count};
 
 // A word's kind and content.
-fn put_word(w: u32) {
-    put(kind(w) as u64);
-    put(content(w) as u64);
+fn put_word(to: &mut Printer, w: u32) {
+    put(to, kind(w) as u64);
+    put(to, content(w) as u64);
 }
 
-fn put_words(image: &[u32]) {
+fn put_words(to: &mut Printer, image: &[u32]) {
     let mut i = 0;
     while i < image.len() {
-        put_word(image[i]);
+        put_word(to, image[i]);
         i += 1;
     }
-    put_end();
+    put_end(to);
 }
 
 // The cost of a cell's instruction and the count of the values that it writes; `-` for an empty cell, `!` for one that no text yields.
-fn put_cell(cell: &[u32], p: Parameters, m: u32, forms: &[u32], prices: &[u32])
+fn put_cell(to: &mut Printer, cell: &[u32], p: Parameters, m: u32, forms: &[u32], prices: &[u32])
     requires cell_len { length cell.now ≡ 4 }
     requires fit { Fit p }
     requires m_value { m ≡ limit p.k }
@@ -39,19 +39,19 @@ fn put_cell(cell: &[u32], p: Parameters, m: u32, forms: &[u32], prices: &[u32])
     let decoded = decode(cell, p, m, forms);
     match decoded {
         Decoded::Runs(i) => {
-            put(cost(i, p, prices));
-            put(value_count(i.number, p) as u64);
+            put(to, cost(i, p, prices));
+            put(to, value_count(i.number, p) as u64);
         }
         Decoded::Empty => {
-            io::write_all(1, b"- ");
+            put_text(to, b"- ");
         }
         Decoded::Invalid => {
-            io::write_all(1, b"! ");
+            put_text(to, b"! ");
         }
     }
 }
 
-fn put_cells(p: Parameters, image: &[u32])
+fn put_cells(to: &mut Printer, p: Parameters, image: &[u32])
     requires fit { Fit p }
     requires image_len { length image.now ≡ 4 * p.t }
 {
@@ -62,33 +62,33 @@ fn put_cells(p: Parameters, image: &[u32])
     let mut at = 0;
     while at < end {
         let next = at + 4;
-        put_cell(&image[at..next], p, m, &forms, &prices);
+        put_cell(to, &image[at..next], p, m, &forms, &prices);
         at = next;
     }
-    put_end();
+    put_end(to);
 }
 
 // Whether the image fits: 1 or 0.
-fn put_fits(p: Parameters, image: &[u32])
+fn put_fits(to: &mut Printer, p: Parameters, image: &[u32])
     requires fit { Fit p }
     requires image_len { length image.now ≡ 4 * p.t }
 {
     if image_fits(p, image) {
-        put(1);
+        put(to, 1);
     } else {
-        put(0);
+        put(to, 0);
     }
-    put_end();
+    put_end(to);
 }
 
 // The words; and the cells and whether the image fits, where this may be asked.
-pub fn put_image(p: Parameters, image: &[u32]) {
-    put_words(image);
+pub fn put_image(to: &mut Printer, p: Parameters, image: &[u32]) {
+    put_words(to, image);
     if parameter_refusal(p) != 0 {
         return;
     }
     if image.len() == 4 * (p.t as usize) {
-        put_cells(p, image);
-        put_fits(p, image);
+        put_cells(to, p, image);
+        put_fits(to, p, image);
     }
 }

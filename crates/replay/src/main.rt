@@ -7,9 +7,12 @@
 ghost use Rattle.std.specs.Prelude.{◌≡◌, ◌<◌, ◌≤◌, length};
 
 use crate::calls::{Case, run_text};
+use crate::printer::Printer;
 use crate::reader::{at_most, read_header};
 use crate::vectors::run_vector;
 use model::Parameters;
+use std::io;
+use std::io::Read;
 use text::tokens::next_token;
 
 mod calls;
@@ -42,7 +45,7 @@ fn case_of(f: [u32; 12]) -> Case
 }
 
 // The case whose input is at p, and the place behind its calls; the buffer's end if it is short of input.
-fn run_slices(t: &[u8], p: usize, c: Case, text: &[u8]) -> usize
+fn run_slices(to: &mut Printer, t: &[u8], p: usize, c: Case, text: &[u8]) -> usize
     requires p_in_bounds { p ≤ length t.now }
     requires words_bound { (c.words ≤ 256) × (c.registers ≤ 32) × (c.cells ≤ 64) }
     requires own_bound { (c.own ≤ 131072) × (c.more ≤ 131072) }
@@ -61,6 +64,7 @@ fn run_slices(t: &[u8], p: usize, c: Case, text: &[u8]) -> usize
     let mut registers = [77i32; 32];
     let mut cells = [77i32; 64];
     run_text(
+        to,
         t,
         calls,
         c,
@@ -73,7 +77,7 @@ fn run_slices(t: &[u8], p: usize, c: Case, text: &[u8]) -> usize
 }
 
 // The numbers at p, the text behind them and its calls; the buffer's end if it is short of text.
-fn run_calls_case(t: &[u8], p: usize) -> usize
+fn run_calls_case(to: &mut Printer, t: &[u8], p: usize) -> usize
     requires { p ≤ length t.now }
     ensures { (p ≤ result) × (result ≤ length t.now) }
 {
@@ -86,11 +90,11 @@ fn run_calls_case(t: &[u8], p: usize) -> usize
     }
     let from = end + 1;
     let next = from + bytes;
-    run_slices(t, next, case_of(fields), &t[from..next])
+    run_slices(to, t, next, case_of(fields), &t[from..next])
 }
 
 // The case at p, and the place behind it; the buffer's end if there is none.
-fn run_case(t: &[u8], p: usize) -> usize
+fn run_case(to: &mut Printer, t: &[u8], p: usize) -> usize
     requires { p ≤ length t.now }
     ensures { (result ≤ length t.now) × (p < length t.now → p < result) }
 {
@@ -101,15 +105,15 @@ fn run_case(t: &[u8], p: usize) -> usize
         return t.len();
     }
     if t[a] == b'v' {
-        return run_vector(t, b);
+        return run_vector(to, t, b);
     }
-    run_calls_case(t, b)
+    run_calls_case(to, t, b)
 }
 
-fn run(t: &[u8]) {
+fn run(to: &mut Printer, t: &[u8]) {
     let mut p = 0;
     while p < t.len() {
-        p = run_case(t, p);
+        p = run_case(to, t, p);
     }
 }
 
@@ -120,8 +124,10 @@ fn blanks() -> [u8; 131072]
     [b' '; 131072]
 }
 
-fn main() {
+fn main(rt: HostRuntime) -> io::Result<()> {
     let mut input = blanks();
-    io::read_full(0, &mut input);
-    run(&input);
+    io::copy(&mut rt.stdin().take(131072), &mut &mut input[..])?;
+    let mut out = Printer::new(rt.alloc(), rt.stdout())?;
+    run(&mut out, &input);
+    out.finish()
 }

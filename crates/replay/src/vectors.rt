@@ -2,7 +2,7 @@
 ghost use Rattle.std.specs.Prelude.{◌≤◌, length};
 ghost use Rattle.bounds.specs.Bounds.{IsLimit, Within};
 
-use crate::printer::{put, put_end, put_value};
+use crate::printer::{Printer, put, put_end, put_value};
 use crate::reader::read_next;
 use arithmetic::Computed;
 use bounds::limits::limit_of;
@@ -18,84 +18,84 @@ struct Operand {
 }
 
 // The return code, then the value.
-fn put_computed(c: Computed) {
-    put(c.code as u64);
-    put_value(c.value);
+fn put_computed(to: &mut Printer, c: Computed) {
+    put(to, c.code as u64);
+    put_value(to, c.value);
 }
 
-fn put_arithmetic(m: u32, x: i32, y: i32)
+fn put_arithmetic(to: &mut Printer, m: u32, x: i32, y: i32)
     requires limit { IsLimit m }
     requires within { Within m x }
 {
-    put_computed(arithmetic::neg(m, x));
-    put_computed(arithmetic::abs(m, x));
-    put_computed(arithmetic::add(m, x, y));
-    put_computed(arithmetic::sub(m, x, y));
-    put_computed(arithmetic::mul(m, x, y));
-    put_computed(arithmetic::div(m, x, y));
-    put_computed(arithmetic::modulo(x, y));
+    put_computed(to, arithmetic::neg(m, x));
+    put_computed(to, arithmetic::abs(m, x));
+    put_computed(to, arithmetic::add(m, x, y));
+    put_computed(to, arithmetic::sub(m, x, y));
+    put_computed(to, arithmetic::mul(m, x, y));
+    put_computed(to, arithmetic::div(m, x, y));
+    put_computed(to, arithmetic::modulo(x, y));
 }
 
-fn put_comparisons(x: i32, y: i32) {
-    put_value(logic::booleans::cmpeq(x, y));
-    put_value(logic::booleans::cmpneq(x, y));
-    put_value(logic::booleans::cmplt(x, y));
-    put_value(logic::booleans::cmpgt(x, y));
-    put_value(logic::booleans::cmple(x, y));
-    put_value(logic::booleans::cmpge(x, y));
+fn put_comparisons(to: &mut Printer, x: i32, y: i32) {
+    put_value(to, logic::booleans::cmpeq(x, y));
+    put_value(to, logic::booleans::cmpneq(x, y));
+    put_value(to, logic::booleans::cmplt(x, y));
+    put_value(to, logic::booleans::cmpgt(x, y));
+    put_value(to, logic::booleans::cmple(x, y));
+    put_value(to, logic::booleans::cmpge(x, y));
 }
 
-fn put_booleans(x: i32, y: i32) {
-    put_computed(logic::booleans::not(x));
-    put_computed(logic::booleans::and(x, y));
-    put_computed(logic::booleans::or(x, y));
-    put_computed(logic::booleans::xor(x, y));
-    put_computed(logic::booleans::nand(x, y));
-    put_computed(logic::booleans::nor(x, y));
+fn put_booleans(to: &mut Printer, x: i32, y: i32) {
+    put_computed(to, logic::booleans::not(x));
+    put_computed(to, logic::booleans::and(x, y));
+    put_computed(to, logic::booleans::or(x, y));
+    put_computed(to, logic::booleans::xor(x, y));
+    put_computed(to, logic::booleans::nand(x, y));
+    put_computed(to, logic::booleans::nor(x, y));
 }
 
-fn put_bits(m: u32, x: i32, y: i32)
+fn put_bits(to: &mut Printer, m: u32, x: i32, y: i32)
     requires limit { IsLimit m }
     requires within { Within m x × Within m y }
 {
-    put_value(bitwise::bits::rnot(x));
-    put_value(bitwise::bits::rand(m, x, y));
-    put_value(bitwise::bits::ror(m, x, y));
-    put_value(bitwise::bits::rxor(m, x, y));
-    put_value(bitwise::bits::rnand(m, x, y));
-    put_value(bitwise::bits::rnor(m, x, y));
+    put_value(to, bitwise::bits::rnot(x));
+    put_value(to, bitwise::bits::rand(m, x, y));
+    put_value(to, bitwise::bits::ror(m, x, y));
+    put_value(to, bitwise::bits::rxor(m, x, y));
+    put_value(to, bitwise::bits::rnand(m, x, y));
+    put_value(to, bitwise::bits::rnor(m, x, y));
 }
 
-fn put_shifts(m: u32, x: i32)
+fn put_shifts(to: &mut Printer, m: u32, x: i32)
     requires limit { IsLimit m }
     requires within { Within m x }
 {
-    put_value(bitwise::bits::rsl(m, x));
-    put_value(bitwise::bits::rsr(m, x));
-    put_value(bitwise::bits::asr(x));
+    put_value(to, bitwise::bits::rsl(m, x));
+    put_value(to, bitwise::bits::rsr(m, x));
+    put_value(to, bitwise::bits::asr(x));
 }
 
-fn put_all(m: u32, x: i32, y: i32)
+fn put_all(to: &mut Printer, m: u32, x: i32, y: i32)
     requires limit { IsLimit m }
     requires within { Within m x × Within m y }
 {
-    put_arithmetic(m, x, y);
-    put_comparisons(x, y);
-    put_booleans(x, y);
-    put_bits(m, x, y);
-    put_shifts(m, x);
+    put_arithmetic(to, m, x, y);
+    put_comparisons(to, x, y);
+    put_booleans(to, x, y);
+    put_bits(to, m, x, y);
+    put_shifts(to, m, x);
 }
 
 // The results, if both values are in the range, and LF.
-fn put_line(m: u32, x: i32, y: i32)
+fn put_line(to: &mut Printer, m: u32, x: i32, y: i32)
     requires { IsLimit m }
 {
     if in_range(m, x) {
         if in_range(m, y) {
-            put_all(m, x, y);
+            put_all(to, m, x, y);
         }
     }
-    put_end();
+    put_end(to);
 }
 
 // What is no number is 0, and what is outside the range 1.
@@ -136,7 +136,7 @@ fn bits_of(v: u64) -> u32
 }
 
 // The vector at p, and the place behind it.
-pub fn run_vector(t: &[u8], p: usize) -> usize
+pub fn run_vector(to: &mut Printer, t: &[u8], p: usize) -> usize
     requires { p ≤ length t.now }
     ensures { (p ≤ result) × (result ≤ length t.now) }
 {
@@ -144,6 +144,6 @@ pub fn run_vector(t: &[u8], p: usize) -> usize
     let m = limit_of(bits_of(k.value));
     let x = read_operand(t, k.end, m);
     let y = read_operand(t, x.end, m);
-    put_line(m, x.value, y.value);
+    put_line(to, m, x.value, y.value);
     y.end
 }

@@ -1,0 +1,25 @@
+-- `put_values` meets its contract. Assumes nothing.
+use mathlib.Core.Path.{refl}
+use native.Mathlib.Omega.{arith}
+use lib.IntN.{pos}
+use lib.ListN.{get_or}
+use mir.Facts.{to_z-of_z}
+use mir.Syntax.{w32}
+use mir.Val.{SFits}
+use Rattle.model.specs.Lines.{value_lines}
+use Rattle.session.proofs.Pieces.{value-line-length, lines_next, put_then}
+use Rattle.session.proofs.printing.put_values.Goals as goal
+
+pub loop-i-init : goal.loop-i-init
+unfolding value_lines
+loop-i-init c = (omega arith, omega arith, record { room = omega arith; end = refl; bytes = refl })
+
+pub loop-i-preserved : goal.loop-i-preserved
+loop-i-preserved c =
+    let values = c.args.values.now in
+    let at = c.loop-i in
+    let inside = c.loop-i-test.true in
+    let fits : SFits w32 (get_or values at.i (pos 0)) = record { sfits = omega arith } in
+    let line = rw (to_z-of_z fits) at c.put_value-at.ensures in
+    let short = value-line-length (get_or values at.i (pos 0)) fits.sfits in
+    (omega (arith, inside), omega (arith, at.invariant.1, line.end, short), rw (lines_next values at.i inside) (put_then at.invariant.2 line))
