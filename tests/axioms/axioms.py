@@ -1,121 +1,146 @@
-"""Holds the check's reports to what may be assumed: axioms.py CRATES.TXT CRATES LOGS
+"""Holds what the crates can reach of C to what may be assumed: axioms.py CRATES.TXT CRATES LOGS
 
-No library crate reaches a C function: none declares one (`foreign=`) and none stands over a library of the kit that does. Each program
-assumes the contracts of exactly the C functions below, and the static library of none.
+No library crate reaches a C function: none lists a library of the kit, and the code that was built of it names only functions of this repository and of
+`core`, which declares none. Each program assumes the contracts of exactly the C functions below, and the static library of none, as the reports of their
+checks name them (target/log); no crate of ours declares one.
 """
 import os
 import re
 import sys
 
-READ_WRITE = {"libc::read", "libc::write"}
-ERRNO = {"os::c::rattle_errno", "os::c::rattle_set_errno"}
-# `os::open_read` sets errno for a name that C cannot be handed, so that opening a file reaches both functions of errno.
 ASSUMED = {
-    "takrun": READ_WRITE | {"libc::close", "os::c::rattle_open_to_read"} | ERRNO,
-    "replay": READ_WRITE,
+    "takrun": set(),
+    "replay": set(),
 }
-STATIC = "tak"
+# The libraries of the kit that declare C functions.
+DECLARE = {"libc", "os", "std"}
 
 
 def listed(path):
-    """The crates of crates.txt, in order."""
+    """The crates of crates.txt, in order: each with whether it is a static library, and what it lists."""
     with open(path, encoding="utf-8") as f:
         lines = [line.split("#")[0] for line in f]
-    return [line.split(":")[0].strip() for line in lines if ":" in line]
+    rows = [re.fullmatch(r"(\w+)( staticlib)? *:(.*)", line.strip()) for line in lines if line.strip()]
+    return {row[1]: (bool(row[2]), row[3].split()) for row in rows}
 
 
-def assumed_in(report):
-    """The C functions that a report's `axioms` lines name."""
-    names = re.findall(r"^axioms \w+: (.*) \(\d+ of the \d+ declared\).*$", report, re.M)
-    return {name for line in names for name in line.split(", ")}
+def last_report(text):
+    """What a log has of its last check: `rt` shows the checks of the libraries below first."""
+    return text[max((m.end() for m in list(re.finditer(r"^logic=.*\n", text, re.M))[:-1]), default=0) :]
 
 
-def wrong_in(crate, is_program, report, ours):
-    """What a report has that it must not have, or lacks; None if nothing."""
+def wrong_in(crate, report, may):
+    """What the report of a program or a static library has that it must not have, or lacks; None if nothing."""
     verdicts = re.findall(r"^logic=.*$", report, re.M)
     if len(verdicts) != 1 or not verdicts[0].startswith("logic=proved "):
         return "it is not reported as proved"
     words = dict(word.split("=", 1) for word in verdicts[0].split() if "=" in word)
     if "foreign" in words:
         return f"it declares C functions: {words['foreign']}"
-    names = assumed_in(report)
+    if "target" not in words:
+        return "the report is not that of a program or a static library"
+    declaring = dict(re.findall(r"^axioms (\w+): (\w+) reached of the \d+ declared$", report, re.M))
+    if declaring.keys() != DECLARE or len(re.findall(r"^axioms ", report, re.M)) != len(DECLARE):
+        return f"the report is of the C functions that {', '.join(sorted(declaring)) or 'no library'} declares"
+    names = set(re.findall(r"^  (\S+)   reached$", report, re.M))
+    for library, count in declaring.items():
+        if (0 if count == "none" else int(count)) != sum(name.startswith(f"{library}::") for name in names):
+            return f"the count of those of {library} ({count}) is not that of the names: {', '.join(sorted(names))}"
     if int(words.get("axioms", "0")) != len(names):
         return f"the count of axioms ({words.get('axioms', '0')}) is not that of the names: {', '.join(sorted(names))}"
-    if is_program or crate == STATIC:
-        if "target" not in words:
-            return "the report is not that of a program or a static library"
-        may = ASSUMED.get(crate, set()) if is_program else set()
-        if names != may:
-            return f"beyond the list: {', '.join(sorted(names - may)) or 'none'}; missing: {', '.join(sorted(may - names)) or 'none'}"
-        if is_program:
-            return None
-    if names:
-        return f"a library with axioms: {', '.join(sorted(names))}"
-    others = set(re.findall(r"^library (\w+):", report, re.M)) - set(ours) - {"std"}
-    return f"a library over {', '.join(sorted(others))} of the kit" if others else None
+    if names != may:
+        return f"beyond the list: {', '.join(sorted(names - may)) or 'none'}; missing: {', '.join(sorted(may - names)) or 'none'}"
+    return None
 
 
-def replaced(report, old, new):
-    """The report with a text of it replaced, which must be there."""
-    if not re.search(old, report, re.M):
-        raise ValueError(f"the report has nothing like {old}")
-    return re.sub(old, new, report, flags=re.M)
+def wrong_in_library(crate, lists, code, ours):
+    """What a library lists or names in its code that it must not."""
+    others = set(lists) - set(ours)
+    if others:
+        return f"a library over {', '.join(sorted(others))} of the kit"
+    if not re.search(rf'"{crate}::\w', code) and '"body"' in code:
+        return "its code names none of its own functions, so that it is in another form"
+    # the first word of each path; a + stands between the words where rattle makes a name of a path
+    heads = set(re.findall(r"(?<![\w:])([A-Za-z_]\w*)::", code)) | set(re.findall(r"(?<=\+)([A-Za-z_]\w*)\+\+", code))
+    others = heads - set(ours) - {"core"}
+    return f"its code names functions of {', '.join(sorted(others))}" if others else None
 
 
-def altered(reports):
-    """Reports that must be found wrong: what was done, the crate, the report."""
-    axiom = "axioms libc: libc::read (1 of the 50 declared)\nlogic=proved axioms=1 "
-    for crate in ("machine", STATIC):
-        report = reports[crate]
-        yield "a library with an axiom", crate, replaced(report, r"^logic=proved ", axiom)
-        yield "an axiom counted and not named", crate, replaced(report, r"^logic=proved ", "logic=proved axioms=1 ")
-        yield "an axiom named and not counted", crate, replaced(report, r"^logic=proved ", axiom.replace("axioms=1 ", ""))
-        yield "a C function of its own", crate, replaced(report, r"^logic=proved ", "logic=proved foreign=machine::magic ")
-        yield "a library over libc", crate, replaced(report, r"^library std:", "library libc:")
-        yield "not proved", crate, replaced(report, r"^logic=proved", "logic=not-proved")
-        yield "no verdict", crate, replaced(report, r"^logic=.*\n", "")
-    yield "not the static library's report", STATIC, replaced(reports[STATIC], r" target=\S+", "")
-    # a report of takrun as it should be, so that each alteration alone is what is found
-    lines = "".join(
-        f"axioms {library}: {', '.join(names)} ({len(names)} of the 50 declared)\n"
-        for library in ("libc", "os")
-        for names in [sorted(name for name in ASSUMED["takrun"] if name.startswith(library))]
-    )
-    count = len(ASSUMED["takrun"])
-    report = replaced(replaced(reports["takrun"], r"^axioms .*\n", ""), r"^logic=proved (.*)axioms=\d+", rf"{lines}logic=proved \1axioms={count}")
-    if wrong_in("takrun", True, report, []) is not None:
-        raise ValueError("the report made for takrun is not accepted")
-    fewer, more = f"axioms={count - 1} ", f"axioms={count + 1} "
-    yield "takrun with unlink too", "takrun", replaced(replaced(report, r"libc::write ", "libc::write, libc::unlink "), r"axioms=\d+ ", more)
-    yield "takrun with another open", "takrun", replaced(report, "rattle_open_to_read", "rattle_open_to_update")
-    for name in sorted(ASSUMED["takrun"]):
-        without = replaced(report, rf"(: ){name}, |, {name}\b", r"\1")
-        yield f"takrun without {name}", "takrun", replaced(without, r"axioms=\d+ ", fewer)
-    yield "a program that is not in the list", "another", report
+def replaced(text, old, new):
+    """The text with a part of it replaced, which must be there."""
+    if not re.search(old, text, re.M):
+        raise ValueError(f"there is nothing like {old}")
+    return re.sub(old, new, text, flags=re.M)
+
+
+def altered(crate, report, may):
+    """Reports that must be found wrong: what was done, and the report."""
+    count = len(may)
+    another = r"^(axioms libc: )\w+( reached.*)\n"
+    more = rf"\g<1>{sum(name.startswith('libc::') for name in may) + 1}\2\n  libc::another   reached\n"
+    axioms = rf"^logic=proved (.*?)(axioms=\d+ )?target="
+    yield "a C function more", replaced(replaced(report, another, more), axioms, rf"logic=proved \1axioms={count + 1} target=")
+    yield "one that is named and not counted", replaced(report, another, r"\1none\2\n  libc::another   reached\n")
+    yield "one that is named and not counted in the verdict", replaced(report, another, more)
+    yield "one that is counted and not named", replaced(report, axioms, rf"logic=proved \1axioms={count + 1} target=")
+    yield "a C function of its own", replaced(report, r"^logic=proved ", "logic=proved foreign=machine::magic ")
+    yield "a C function of a crate of ours", replaced(report, r"^axioms std:", "axioms machine: 1 reached of the 1 declared\n  machine::magic   reached\naxioms std:")
+    yield "nothing said of os", re.sub(r"^axioms os: .*\n", "", report, flags=re.M)
+    yield "a report that names the first of them", replaced(report, r"^axioms libc: .*$", "axioms libc: libc::read, libc::write, ... (4 of the 128 declared)")
+    yield "not proved", replaced(report, r"^logic=proved", "logic=not-proved")
+    yield "no verdict", replaced(report, r"^logic=.*\n", "")
+    yield "the report of a library", replaced(report, r" target=\S+", "")
+    for name in sorted(may):
+        library = name.split("::")[0]
+        of_it = sum(other.startswith(f"{library}::") for other in may)
+        without = replaced(report, rf"^  {name}   reached$", f"  {name}")
+        without = replaced(without, rf"^axioms {library}: \w+ ", f"axioms {library}: {of_it - 1 or 'none'} ")
+        yield f"{name} missing", replaced(without, r"axioms=\d+ ", f"axioms={count - 1} " if count > 1 else "")
+
+
+def altered_code(crate, code):
+    """Code of a library that must be found wrong."""
+    yield "a call of std", code + '["std::fs::File::open"]'
+    yield "a call of libc", code + '["libc::read"]'
+    yield "a call in a name that is made of a path", code + f'["{crate}::std++io++traits++Lines+Destruct::drop"]'
+    yield "code in another form", code.replace(f'"{crate}::', '"')
 
 
 def main():
     crates_txt, folder, logs = sys.argv[1:]
     ours = listed(crates_txt)
-    programs = {crate for crate in ours if os.path.exists(os.path.join(folder, crate, "src", "main.rt"))}
-    reports, wrong = {}, []
-    passed = 0
-    for crate in ours:
-        with open(os.path.join(logs, f"{crate}.say"), encoding="utf-8") as f:
-            reports[crate] = f.read()
-        said = wrong_in(crate, crate in programs, reports[crate], ours)
-        if said is None:
-            passed += 1
+    passed, wrong = 0, []
+
+    def count(what, said):
+        nonlocal passed
+        passed += said is None
+        if said is not None:
+            wrong.append(f"{what}: {said}")
+
+    def found(what, said):
+        count(what, "not found wrong" if said is None else None)
+
+    for crate, (is_static, lists) in ours.items():
+        if is_static or os.path.exists(os.path.join(folder, crate, "src", "main.rt")):
+            with open(os.path.join(logs, crate), encoding="utf-8") as f:
+                report = last_report(f.read())
+            if not is_static and crate not in ASSUMED:
+                count(crate, "a program that is not in the list")
+                continue
+            may = set() if is_static else ASSUMED[crate]
+            others = set(lists) - set(ours)
+            count(crate, f"it lists {', '.join(sorted(others))} of the kit" if others else wrong_in(crate, report, may))
+            if wrong_in(crate, report, may) is None:
+                for what, text in altered(crate, report, may):
+                    found(f"{crate} with {what}", wrong_in(crate, text, may))
         else:
-            wrong.append(f"{crate}: {said}")
-    try:
-        for what, crate, report in altered(reports):
-            if wrong_in(crate, crate in programs or crate == "another", report, ours) is None:
-                wrong.append(f"not found wrong: {what} ({crate})")
-            else:
-                passed += 1
-    except ValueError as error:
-        wrong.append(f"the reports cannot be altered: {error}")
+            with open(os.path.join(folder, crate, "out", "rlib", f"{crate}.rlib", "toolchain", "mir.json"), encoding="utf-8") as f:
+                code = f.read()
+            count(crate, wrong_in_library(crate, lists, code, ours))
+            if '"body"' in code and wrong_in_library(crate, lists, code, ours) is None:
+                for what, text in altered_code(crate, code):
+                    found(f"{crate} with {what}", wrong_in_library(crate, lists, text, ours))
+                found(f"{crate} over libc", wrong_in_library(crate, [*lists, "libc"], code, ours))
     for line in wrong:
         print(f"axioms: {line}")
     print(f"{passed} passed, {len(wrong)} failed")

@@ -10,7 +10,7 @@ use borrow.Author.Tests.{leb-true, le-leb}
 use Rattle.model.specs.Parameters.{Fit, max_granted, refusal_of}
 use Rattle.model.specs.Images.{image_fits}
 use Rattle.model.specs.Machine.{goes}
-use Rattle.model.specs.Grants.{Call, Account, RunState, beginning, hand_back, refuse, advance, look_from, run, accept, grant}
+use Rattle.model.specs.Grants.{Call, Account, RunState, beginning, hand_back, refuse, advance, look_from, accept, grant}
 use Rattle.model.specs.Step.{Environment, Memory, State, Tak, fresh_state}
 use Rattle.model.specs.Calls.{fresh_record, start_checks, fresh_memory, Started, started, held_after_start, record_tests, memory_tests, memory_of, record_fits, grant_refusal, account_of}
 use Rattle.model.proofs.Fits.{all_true, all_pass_lem, Sized, GrantFits, start-accepted, grant-accepted}

@@ -14,36 +14,7 @@ use Rattle.model.specs.declared.LoadReply.TheVariants.{Accepted, Refused}
 use Rattle.model.specs.Parameters.{Check, refusal_of, parameter_checks}
 use Rattle.model.specs.Words.{Argument, argument_word, Cell}
 use Rattle.model.specs.Instructions.{row_of}
-use Rattle.model.specs.Load.{
-  allows,
-  argument,
-  arguments_from,
-  Checked,
-  fault,
-  fine,
-  first_fault,
-  headed,
-  is_within,
-  length_check,
-  line_cell,
-  line_of,
-  lines,
-  lines_reply,
-  load_checks,
-  load_line,
-  load_lines,
-  LoadNumbers,
-  load_numbers,
-  load_refusal,
-  load_reply,
-  lookup,
-  numbers_of_load,
-  checked_argument,
-  right_lines,
-  text_checks,
-  text_reply,
-  words,
-}
+use Rattle.model.specs.Load.{allows, argument, arguments_from, Checked, fault, fine, first_fault, headed, is_within, line_cell, line_of, lines, lines_reply, load_checks, load_line, load_lines, LoadNumbers, load_numbers, load_refusal, load_reply, lookup, numbers_of_load, checked_argument, right_lines, text_checks, text_reply, words}
 use Rattle.model.proofs.Fits.{by_cond, Numbered, all_fit, refusal-first, refusal-later, numbered_append, parameters-numbered}
 use Rattle.model.proofs.Refusals.{load-refused-first}
 

@@ -11,10 +11,10 @@ returns-then-started-ne0 c =
     let a = c.args in
     let put = c.put_refusal.ensures in
     rw c.stop_after.ensures (
-      record {
-        begin_is =
-            not-begun (environment_of a.p a.image.now []) (as_memory a.registers.now a.cells.now) a.lines.now c.start-started.ensures
-                c.if-started-ne0.true put;
-        within = omega (arith, put.room, put.end, put-length put);
-      }
+    record {
+      begin_is =
+          not-begun (environment_of a.p a.image.now []) (as_memory a.registers.now a.cells.now) a.lines.now c.start-started.ensures
+          c.if-started-ne0.true put;
+      within = omega (arith, put.room, put.end, put-length put);
+    }
     )

@@ -11,10 +11,10 @@ returns-in-Refused c =
     let a = c.args in
     let put = c.put_refusal.ensures in
     rw c.stop_after.ensures (
-      record {
-        open_is =
-            not-loaded a.p a.text.now a.image.now _ (as_memory a.registers.now a.cells.now) a.lines.now
-                c.load-loaded.ensures.value c.load-loaded.ensures.image c.in-Refused.is _ refl put;
-        within = omega (arith, put.room, put.end, put-length put);
-      }
+    record {
+      open_is =
+          not-loaded a.p a.text.now a.image.now _ (as_memory a.registers.now a.cells.now) a.lines.now
+          c.load-loaded.ensures.value c.load-loaded.ensures.image c.in-Refused.is _ refl put;
+      within = omega (arith, put.room, put.end, put-length put);
+    }
     )

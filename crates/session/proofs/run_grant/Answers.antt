@@ -23,7 +23,7 @@ returns c =
     record {
       report_is =
           reported (environment_of a.rec.parameters a.image.now a.input.now) (as_held a.rec a.registers.now a.cells.now)
-              (as_call a.cycles a.values.now) a.lines.now
-              c.grant-reply.ensures first last.put last.more_value c.requires.0 (omega arith);
+          (as_call a.cycles a.values.now) a.lines.now
+          c.grant-reply.ensures first last.put last.more_value c.requires.0 (omega arith);
       within = omega (arith, all.room, all.end, put-length all);
     }

@@ -4,8 +4,6 @@ use mathlib.Core.Bool.{true, ◌&&◌}
 use lib.Dec.{leb}
 use borrow.Author.Tests.{not-false, not-true, le-leb, lt-leb}
 use Rattle.model.specs.Parameters.{between, limit, parameter_checks, max_registers, max_cells}
-use Rattle.model.proofs.Fits.{is-between}
-use Rattle.bounds.proofs.LimitLaws.{one}
 use Rattle.bounds.proofs.limits.parameter_refusal.Goals as goal
 use Rattle.bounds.proofs.limits.parameter_refusal.Goals.{Else-not-countable, Else-not-within, Else-not-within-2, Else-p}
 

@@ -1,6 +1,6 @@
 use native.Mathlib.Omega.{arith}
 use mir.Syntax.{w32}
-use Rattle.bounds.proofs.Integers.{minus-limit-fits, low-passed, low-failed}
+use Rattle.bounds.proofs.Integers.{minus-limit-fits, low-passed}
 use Rattle.bounds.proofs.LimitLaws.{at_most}
 use Rattle.bounds.proofs.ranges.in_range.Goals as goal
 
