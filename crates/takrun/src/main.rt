@@ -6,8 +6,9 @@ ghost use Rattle.std.specs.Io.{WritesAtMost};
 ghost use Rattle.std.specs.IoError.{error_kind};
 ghost use Rattle.model.specs.Program.{slice_values};
 ghost use Rattle.model.specs.Parameters.{max_registers, max_cells, max_instructions};
-ghost use Rattle.model.specs.Step.{as_memory};
-ghost use Rattle.session.specs.Sessions.{Sizes, size_of, lines_bytes};
+ghost use Rattle.model.specs.Calls.{as_held, as_call};
+ghost use Rattle.model.specs.Step.{as_memory, environment_of};
+ghost use Rattle.session.specs.Sessions.{Sizes, size_of, lines_bytes, ReportIs};
 
 use model::{Parameters, Record};
 use session::{Report, open, run_grant};
@@ -111,6 +112,35 @@ fn print<W: Write>(out: &mut W, bytes: &[u8]) -> bool {
     t.count == bytes.len()
 }
 
+// The grant that follows, and its lines.
+fn next_grant(
+    report: Report,
+    image: &[u32],
+    input: &[u8],
+    registers: &mut [i32],
+    cells: &mut [i32],
+    values: &mut [i32],
+    lines: &mut [u8],
+) -> Report
+    requires { (length values.old ≡ slice_values) × (lines_bytes ≤ length lines.old) }
+    ensures report_is { ReportIs (environment_of report.rec.parameters image.now input.now)
+        (as_held report.rec registers.old cells.old) (as_call report.cycles values.old) lines.old
+        result (as_memory registers.new cells.new) values.new lines.new }
+    ensures within { result.count ≤ length lines.new }
+{
+    let rec = report.rec;
+    run_grant(
+        rec,
+        report.cycles,
+        image,
+        input,
+        registers,
+        cells,
+        values,
+        lines,
+    )
+}
+
 // Grants as long as more follow. After a write that failed nothing more is written: the last line is missing, so that the loss can be seen.
 fn run_grants<W: Write>(
     out: &mut W,
@@ -126,17 +156,7 @@ fn run_grants<W: Write>(
 {
     let mut report = first;
     while report.more {
-        let rec = report.rec;
-        report = run_grant(
-            rec,
-            report.cycles,
-            image,
-            input,
-            registers,
-            cells,
-            values,
-            lines,
-        );
+        report = next_grant(report, image, input, registers, cells, values, lines);
         let count = report.count;
         if !print(out, &lines[..count]) {
             return;

@@ -5,7 +5,7 @@ use mir.Facts.{to_z-of_z}
 use mir.Syntax.{w32}
 use mir.Val.{SFits}
 use Rattle.model.specs.Arithmetic.{remainder}
-use Rattle.bounds.proofs.Integers.{widen, cast_fits, cast_same, quot_fits, rem-fits, is_zero, not-zero, wide_nonzero}
+use Rattle.bounds.proofs.Integers.{widen, cast_same, rem-fits, is_zero, not-zero}
 use Rattle.arithmetic.proofs.modulo.Goals as goal
 use Rattle.arithmetic.proofs.modulo.Goals.{Else-y-eq0}
 

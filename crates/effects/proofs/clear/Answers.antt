@@ -1,6 +1,6 @@
 -- `clear` meets its contract. Assumes nothing.
-use Rattle.std.proofs.Common.{◌≡◌, ◌-◌, ◌≤◌, length, pos, refl, ◌∙◌, arith, length-set, rules}
-use Rattle.effects.proofs.CopyLaws.{front, zeros, zeros-more, zeros-all}
+use Rattle.std.proofs.Common.{pos, ◌∙◌, arith, length-set}
+use Rattle.effects.proofs.CopyLaws.{zeros-more}
 use Rattle.effects.proofs.clear.Goals as goal
 
 pub loop-i-preserved : goal.loop-i-preserved

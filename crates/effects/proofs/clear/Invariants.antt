@@ -1,5 +1,5 @@
-use Rattle.std.proofs.Common.{◌≡◌, ◌-◌, ◌≤◌, length, pos, refl, ◌∙◌, arith, length-set, rules}
-use Rattle.effects.proofs.CopyLaws.{front, zeros, zeros-more, zeros-all}
+use Rattle.std.proofs.Common.{◌≡◌, ◌-◌, ◌≤◌, length}
+use Rattle.effects.proofs.CopyLaws.{front, zeros}
 use Rattle.effects.proofs.clear.Given as goal
 
 abbrev pub invariant-loop-i : goal.invariant-loop-i

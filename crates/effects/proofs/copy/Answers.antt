@@ -1,6 +1,6 @@
 -- `copy` meets its contract. Assumes nothing.
-use Rattle.std.proofs.Common.{◌≡◌, ◌-◌, ◌≤◌, length, get_or, pos, refl, ◌∙◌, arith, length-set, to_z-of_z, w32, SFits, rules}
-use Rattle.effects.proofs.CopyLaws.{front, front-more, front-all}
+use Rattle.std.proofs.Common.{get_or, pos, ◌∙◌, arith, length-set, to_z-of_z, w32, SFits}
+use Rattle.effects.proofs.CopyLaws.{front-more}
 use Rattle.effects.proofs.copy.Goals as goal
 
 pub loop-count-preserved : goal.loop-count-preserved

@@ -1,5 +1,5 @@
-use Rattle.std.proofs.Common.{◌≡◌, ◌-◌, ◌≤◌, length, get_or, pos, refl, ◌∙◌, arith, length-set, to_z-of_z, w32, SFits, rules}
-use Rattle.effects.proofs.CopyLaws.{front, front-more, front-all}
+use Rattle.std.proofs.Common.{◌≡◌, ◌-◌, ◌≤◌, length}
+use Rattle.effects.proofs.CopyLaws.{front}
 use Rattle.effects.proofs.copy.Given as goal
 
 abbrev pub invariant-loop-count : goal.invariant-loop-count

@@ -1,6 +1,6 @@
 -- `dump` meets its contract. Assumes nothing.
-use Rattle.std.proofs.Common.{◌≡◌, ◌-◌, ◌≤◌, length, refl, ◌∙◌, le_refl, arith, rules}
-use Rattle.effects.proofs.CopyLaws.{front, front-to, front-all}
+use Rattle.std.proofs.Common.{length, ◌∙◌, le_refl, arith}
+use Rattle.effects.proofs.CopyLaws.{front-to, front-all}
 use Rattle.effects.proofs.dump.Goals as goal
 
 pub loop-at-preserved : goal.loop-at-preserved

@@ -1,5 +1,5 @@
-use Rattle.std.proofs.Common.{◌≡◌, ◌-◌, ◌≤◌, length, refl, ◌∙◌, le_refl, arith, rules}
-use Rattle.effects.proofs.CopyLaws.{front, front-to, front-all}
+use Rattle.std.proofs.Common.{◌≡◌, ◌-◌, ◌≤◌, length}
+use Rattle.effects.proofs.CopyLaws.{front}
 use Rattle.effects.proofs.dump.Given as goal
 
 abbrev pub invariant-loop-at : goal.invariant-loop-at

@@ -1,13 +1,9 @@
 -- `run` meets its contract. Assumes nothing.
-use Prim.Native.Nat.{◌*◌, ◌^◌, ◌<◌, ◌-◌}
 use mathlib.Core.Path.{◌≡◌, refl, sym, ◌∙◌}
-use native.Mathlib.Nat.{le_refl}
 use native.Mathlib.Omega.{arith}
-use lib.ListN.{length}
-use Rattle.model.specs.Step.{as_memory, environment_of}
+use Rattle.model.specs.Step.{as_memory}
 use Rattle.engine.specs.declared.looks.Found.TheVariants.{Runs}
-use Rattle.engine.specs.Runs.{Runnable}
-use Rattle.engine.proofs.RunLaws.{found, RunInvariant, begins, stopped, cost-paid, cost-some, room_for, steppable, goes_on}
+use Rattle.engine.proofs.RunLaws.{found, stopped, cost-paid, cost-some, room_for, steppable, goes_on}
 use Rattle.engine.proofs.run.Goals as goal
 
 pub returns-in-Stops : goal.returns-in-Stops
@@ -16,8 +12,8 @@ returns-in-Stops c =
     let i = at.invariant.0 in
     let j = at.invariant.1 in
     let looked : c.look-found.result ≡ found i j =
-        c.look-found.ensures c.args.input.now (as_memory at.registers at.cells)
-        (record { register-count = j.sound.register-count; cell-count = j.sound.cell-count }) in
+    c.look-found.ensures c.args.input.now (as_memory at.registers at.cells)
+    (record { register-count = j.sound.register-count; cell-count = j.sound.cell-count }) in
     stopped i j (sym c.in-Stops.is ∙ looked)
 
 pub overflow_add-spent : goal.overflow_add-spent
@@ -26,8 +22,8 @@ overflow_add-spent c =
     let i = at.invariant.0 in
     let j = at.invariant.1 in
     let looked : c.look-found.result ≡ found i j =
-        c.look-found.ensures c.args.input.now (as_memory at.registers at.cells)
-        (record { register-count = j.sound.register-count; cell-count = j.sound.cell-count }) in
+    c.look-found.ensures c.args.input.now (as_memory at.registers at.cells)
+    (record { register-count = j.sound.register-count; cell-count = j.sound.cell-count }) in
     let runs : Runs c.in-Runs.offer ≡ found i j = sym c.in-Runs.is ∙ looked in
     record { fits = omega (arith, cost-paid i j runs, c.ranges.granted.fits) }
 
@@ -37,8 +33,8 @@ overflow_add-count c =
     let i = at.invariant.0 in
     let j = at.invariant.1 in
     let looked : c.look-found.result ≡ found i j =
-        c.look-found.ensures c.args.input.now (as_memory at.registers at.cells)
-        (record { register-count = j.sound.register-count; cell-count = j.sound.cell-count }) in
+    c.look-found.ensures c.args.input.now (as_memory at.registers at.cells)
+    (record { register-count = j.sound.register-count; cell-count = j.sound.cell-count }) in
     let runs : Runs c.in-Runs.offer ≡ found i j = sym c.in-Runs.is ∙ looked in
     record { fits = omega (arith, room_for i j runs, j.long, c.well_formed) }
 
@@ -49,8 +45,8 @@ loop-ending-preserved c =
     let i = at.invariant.0 in
     let j = at.invariant.1 in
     let looked : c.look-found.result ≡ found i j =
-        c.look-found.ensures c.args.input.now (as_memory at.registers at.cells)
-        (record { register-count = j.sound.register-count; cell-count = j.sound.cell-count }) in
+    c.look-found.ensures c.args.input.now (as_memory at.registers at.cells)
+    (record { register-count = j.sound.register-count; cell-count = j.sound.cell-count }) in
     let runs : Runs c.in-Runs.offer ≡ found i j = sym c.in-Runs.is ∙ looked in
     (i, goes_on i j runs _ (c.step-at.ensures.state _) c.step-at.ensures.output refl)
 
@@ -60,8 +56,8 @@ step-at-requires c =
     let i = at.invariant.0 in
     let j = at.invariant.1 in
     let looked : c.look-found.result ≡ found i j =
-        c.look-found.ensures c.args.input.now (as_memory at.registers at.cells)
-        (record { register-count = j.sound.register-count; cell-count = j.sound.cell-count }) in
+    c.look-found.ensures c.args.input.now (as_memory at.registers at.cells)
+    (record { register-count = j.sound.register-count; cell-count = j.sound.cell-count }) in
     let runs : Runs c.in-Runs.offer ≡ found i j = sym c.in-Runs.is ∙ looked in
     steppable i j runs
 
@@ -71,7 +67,7 @@ loop-ending-smaller c =
     let i = at.invariant.0 in
     let j = at.invariant.1 in
     let looked : c.look-found.result ≡ found i j =
-        c.look-found.ensures c.args.input.now (as_memory at.registers at.cells)
-        (record { register-count = j.sound.register-count; cell-count = j.sound.cell-count }) in
+    c.look-found.ensures c.args.input.now (as_memory at.registers at.cells)
+    (record { register-count = j.sound.register-count; cell-count = j.sound.cell-count }) in
     let runs : Runs c.in-Runs.offer ≡ found i j = sym c.in-Runs.is ∙ looked in
     omega (arith, cost-paid i j runs, cost-some i j runs)

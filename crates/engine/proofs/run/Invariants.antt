@@ -1,12 +1,7 @@
-use Prim.Native.Nat.{◌*◌, ◌^◌, ◌<◌, ◌-◌}
-use mathlib.Core.Path.{◌≡◌, refl, sym, ◌∙◌}
-use native.Mathlib.Nat.{le_refl}
-use native.Mathlib.Omega.{arith}
-use lib.ListN.{length}
+use Prim.Native.Nat.{◌-◌}
 use Rattle.model.specs.Step.{as_memory, environment_of}
-use Rattle.engine.specs.declared.looks.Found.TheVariants.{Runs}
 use Rattle.engine.specs.Runs.{Runnable}
-use Rattle.engine.proofs.RunLaws.{found, RunInvariant, begins, stopped, cost-paid, cost-some, room_for, steppable, goes_on}
+use Rattle.engine.proofs.RunLaws.{RunInvariant}
 use Rattle.engine.proofs.run.Given as goal
 
 abbrev pub invariant-loop-ending : goal.invariant-loop-ending

@@ -1,10 +1,8 @@
 -- `grant` meets its contract. Assumes nothing.
 use native.Mathlib.Omega.{arith}
-use Rattle.model.proofs.Fits.{Limits, limits, GrantFits}
-use Rattle.model.proofs.GrantKeeps.{AccountSound}
-use Rattle.model.specs.Calls.{Held, as_held, as_call, account_of, grant_refusal}
-use Rattle.model.specs.Grants.{Call}
-use Rattle.model.specs.Step.{Environment, environment_of}
+use Rattle.model.proofs.Fits.{limits}
+use Rattle.model.specs.Calls.{as_held, as_call}
+use Rattle.model.specs.Step.{environment_of}
 use Rattle.steps.proofs.Tops.{top-between}
 use Rattle.machine.proofs.CallLaws.{fits, sound, grant-refuses, runnable, grant-accepts}
 use Rattle.machine.proofs.grant.Goals as goal

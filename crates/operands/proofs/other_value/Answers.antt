@@ -1,5 +1,5 @@
 -- `other_value` meets its contract. Assumes nothing.
-use Rattle.std.proofs.Common.{[], sym, ◌∙◌, arith, to_z-of_z, w32, SFits, rules}
+use Rattle.std.proofs.Common.{[], sym, ◌∙◌, arith, to_z-of_z, w32, SFits}
 use Rattle.operands.proofs.OperandLaws.{register_alone, word_register, word_cell, word_number, word_other}
 use Rattle.operands.proofs.other_value.Goals as goal
 

@@ -1,5 +1,5 @@
 -- `special_value` meets its contract. Assumes nothing.
-use Rattle.std.proofs.Common.{sym, ◌∙◌, arith, to_z-of_z, w32, rules}
+use Rattle.std.proofs.Common.{sym, ◌∙◌, arith, to_z-of_z, w32}
 use mir.Facts.{to_z_pos}
 use Rattle.operands.proofs.OperandLaws.{register-iar, register-ircr, register-shr, register_general, lowered-top, lowered-fits}
 use Rattle.operands.proofs.special_value.Goals as goal

@@ -2,7 +2,7 @@
 use mathlib.Core.Path.{◌∙◌}
 use native.Mathlib.Omega.{arith}
 use mir.Facts.{to_z-of_z}
-use Rattle.plans.proofs.PlanLaws.{cast-target, jump_negative, jump-beyond, jump-valid}
+use Rattle.plans.proofs.PlanLaws.{jump_negative, jump-beyond, jump-valid}
 use Rattle.plans.proofs.jump.Goals as goal
 
 pub returns-then-target-lt0 : goal.returns-then-target-lt0

@@ -1,13 +1,12 @@
 -- `cost` meets its contract. Assumes nothing.
 use mathlib.Core.List.{List}
-use Prim.Native.Nat.{ℕ, ◌-◌, ◌^◌, ◌<◌}
+use Prim.Native.Nat.{ℕ}
 use mathlib.Core.Path.{◌≡◌}
 use native.Mathlib.Omega.{arith}
 use lib.ListN.{get_or}
-use Rattle.model.specs.Instructions.{directs}
 use Rattle.image.specs.Decode.{cell_from}
 use Rattle.prices.specs.Prices.{price_of, price_table}
-use Rattle.prices.proofs.PriceLaws.{prices-length, product-fits, times-registers, times-cells, is_number, directs-priced, cost_multiplied, cost_single, cost_undirected}
+use Rattle.prices.proofs.PriceLaws.{prices-length, times-registers, times-cells, is_number, directs-priced, cost_multiplied, cost_single, cost_undirected}
 use Rattle.prices.proofs.cost.Goals as goal
 
 price : (prices : List ℕ) (at number k : ℕ) → prices ≡ price_table → get_or price_table at 0 ≡ price_of number k → get_or prices at 0 ≡ price_of number k

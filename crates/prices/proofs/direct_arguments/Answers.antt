@@ -1,7 +1,5 @@
 -- `direct_arguments` meets its contract. Assumes nothing.
-use native.Mathlib.Omega.{arith}
 use Rattle.model.specs.Instructions.{directs}
-use Rattle.prices.proofs.PriceLaws.{direct-small}
 use Rattle.prices.proofs.direct_arguments.Goals as goal
 
 pub returns : goal.returns

@@ -26,7 +26,8 @@ hand_back-requires c =
     let a = c.args in
     let e = environment_of (record_from a.fields.now).parameters a.image.now a.input.now in
     let s = as_slices a.fields.now a.registers.now a.cells.now in
-    let r = c.record_from-rec.result in
-    (λ h. grant_narrow (with_parameters r.parameters e) (record { rec = r; memory = s.memory }) (as_call a.cycles a.output.now) c.grant-reply.ensures
-        (sym c.outcome_number-refusal.ensures ∙ h),
-    c.if-fields-ne-RECORD_LENGTH.false)
+    let r = c.record_from-rec.result in (
+      λ h. grant_narrow (with_parameters r.parameters e) (record { rec = r; memory = s.memory }) (as_call a.cycles a.output.now) c.grant-reply.ensures
+          (sym c.outcome_number-refusal.ensures ∙ h),
+      c.if-fields-ne-RECORD_LENGTH.false,
+    )

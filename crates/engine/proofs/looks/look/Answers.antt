@@ -15,54 +15,54 @@ returns-then-iar-p c input m z =
 pub returns-then-number-eq0 : goal.returns-then-number-eq0
 returns-then-number-eq0 c input m z =
     let k : Reads c.args.p c.args.image.now c.args.at c.read_cell-i.result = record {
-          fits = c.requires.image_value;
-          succeeded = c.if-at-ne0.false;
-          within = c.requires.iar_le_t;
-          not_last = c.if-iar-p.false;
-          read = c.read_cell-i.ensures;
-        } in
+      fits = c.requires.image_value;
+      succeeded = c.if-at-ne0.false;
+      within = c.requires.iar_le_t;
+      not_last = c.if-iar-p.false;
+      read = c.read_cell-i.ensures;
+    } in
     found_empty k input m.registers m.cells c.args.allowance c.args.room c.if-number-eq0.true
 
 pub cost-cycles-requires : goal.cost-cycles-requires
 cost-cycles-requires c =
     let k : Reads c.args.p c.args.image.now c.args.at c.read_cell-i.result = record {
-          fits = c.requires.image_value;
-          succeeded = c.if-at-ne0.false;
-          within = c.requires.iar_le_t;
-          not_last = c.if-iar-p.false;
-          read = c.read_cell-i.ensures;
-        } in
+      fits = c.requires.image_value;
+      succeeded = c.if-at-ne0.false;
+      within = c.requires.iar_le_t;
+      not_last = c.if-iar-p.false;
+      read = c.read_cell-i.ensures;
+    } in
     record { prices_value = c.requires.prices_value; i_value = is-fit k c.if-number-eq0.false }
 
 pub returns-then-allowance-cycles : goal.returns-then-allowance-cycles
 returns-then-allowance-cycles c input m z =
     let k : Reads c.args.p c.args.image.now c.args.at c.read_cell-i.result = record {
-          fits = c.requires.image_value;
-          succeeded = c.if-at-ne0.false;
-          within = c.requires.iar_le_t;
-          not_last = c.if-iar-p.false;
-          read = c.read_cell-i.ensures;
-        } in
+      fits = c.requires.image_value;
+      succeeded = c.if-at-ne0.false;
+      within = c.requires.iar_le_t;
+      not_last = c.if-iar-p.false;
+      read = c.read_cell-i.ensures;
+    } in
     found_paused k input m.registers m.cells c.args.allowance c.args.room c.if-number-eq0.false c.cost-cycles.ensures c.if-allowance-cycles.true
 
 pub returns-then-room-values : goal.returns-then-room-values
 returns-then-room-values c input m z =
     let k : Reads c.args.p c.args.image.now c.args.at c.read_cell-i.result = record {
-          fits = c.requires.image_value;
-          succeeded = c.if-at-ne0.false;
-          within = c.requires.iar_le_t;
-          not_last = c.if-iar-p.false;
-          read = c.read_cell-i.ensures;
-        } in
+      fits = c.requires.image_value;
+      succeeded = c.if-at-ne0.false;
+      within = c.requires.iar_le_t;
+      not_last = c.if-iar-p.false;
+      read = c.read_cell-i.ensures;
+    } in
     found-full k input m.registers m.cells c.args.allowance c.args.room c.if-number-eq0.false c.cost-cycles.ensures c.if-allowance-cycles.false c.value_count-values.ensures z.register-count z.cell-count c.if-room-values.true
 
 pub returns : goal.returns
 returns c input m z =
     let k : Reads c.args.p c.args.image.now c.args.at c.read_cell-i.result = record {
-          fits = c.requires.image_value;
-          succeeded = c.if-at-ne0.false;
-          within = c.requires.iar_le_t;
-          not_last = c.if-iar-p.false;
-          read = c.read_cell-i.ensures;
-        } in
+      fits = c.requires.image_value;
+      succeeded = c.if-at-ne0.false;
+      within = c.requires.iar_le_t;
+      not_last = c.if-iar-p.false;
+      read = c.read_cell-i.ensures;
+    } in
     found-runs k input m.registers m.cells c.args.allowance c.args.room c.if-number-eq0.false c.cost-cycles.ensures c.if-allowance-cycles.false c.value_count-values.ensures z.register-count z.cell-count c.if-room-values.false

@@ -1,9 +1,6 @@
 -- `check::all_zero` meets its contract. Assumes nothing.
-use Prim.Native.Nat.{◌-◌, ◌≤◌}
-use mathlib.Core.Path.{◌≡◌, refl, sym, ◌∙◌}
+use mathlib.Core.Path.{sym, ◌∙◌}
 use borrow.Author.Rules.{rules}
-use lib.ListN.{length, drop}
-use Rattle.model.specs.Images.{all_zero}
 use Rattle.image.proofs.ImageLaws.{zeros-end, zero_more, zero-not}
 use Rattle.image.proofs.check.all_zero.Goals as goal
 

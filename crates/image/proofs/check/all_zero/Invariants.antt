@@ -1,9 +1,7 @@
 use Prim.Native.Nat.{◌-◌, ◌≤◌}
-use mathlib.Core.Path.{◌≡◌, refl, sym, ◌∙◌}
-use borrow.Author.Rules.{rules}
+use mathlib.Core.Path.{◌≡◌}
 use lib.ListN.{length, drop}
 use Rattle.model.specs.Images.{all_zero}
-use Rattle.image.proofs.ImageLaws.{zeros-end, zero_more, zero-not}
 use Rattle.image.proofs.check.all_zero.Given as goal
 
 abbrev pub invariant-loop-i : goal.invariant-loop-i

@@ -1,11 +1,8 @@
 -- `check::image_fits` meets its contract. Assumes nothing.
-use Prim.Native.Nat.{◌-◌, ◌*◌, ◌%◌, ◌≤◌}
-use mathlib.Core.Path.{◌≡◌, refl, sym, ◌∙◌}
+use mathlib.Core.Path.{sym, ◌∙◌}
 use native.Mathlib.Omega.{arith}
-use borrow.Author.Rules.{rules}
-use Rattle.model.specs.Images.{image_fits}
 use Rattle.model.proofs.Fits.{limits}
-use Rattle.image.proofs.ImageLaws.{cells_from, cells-start, cells-end, part_length, cell-runs, cell_empty, cell_invalid}
+use Rattle.image.proofs.ImageLaws.{cells-end, cell-runs, cell_empty, cell_invalid}
 use Rattle.image.proofs.check.image_fits.Goals as goal
 
 pub limit_of-m-requires : goal.limit_of-m-requires

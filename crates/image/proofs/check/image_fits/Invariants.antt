@@ -1,10 +1,7 @@
 use Prim.Native.Nat.{◌-◌, ◌*◌, ◌%◌, ◌≤◌}
-use mathlib.Core.Path.{◌≡◌, refl, sym, ◌∙◌}
-use native.Mathlib.Omega.{arith}
-use borrow.Author.Rules.{rules}
+use mathlib.Core.Path.{◌≡◌}
 use Rattle.model.specs.Images.{image_fits}
-use Rattle.model.proofs.Fits.{limits}
-use Rattle.image.proofs.ImageLaws.{cells_from, cells-start, cells-end, part_length, cell-runs, cell_empty, cell_invalid}
+use Rattle.image.proofs.ImageLaws.{cells_from}
 use Rattle.image.proofs.check.image_fits.Given as goal
 
 abbrev pub invariant-loop-at : goal.invariant-loop-at

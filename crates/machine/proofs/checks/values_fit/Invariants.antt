@@ -1,9 +1,8 @@
 use Prim.Native.Nat.{◌-◌}
 use mathlib.Core.Bool.{◌&&◌}
-use mathlib.Core.Path.{◌≡◌, refl, sym, ◌∙◌}
+use mathlib.Core.Path.{◌≡◌}
 use lib.ListN.{length, drop}
 use Rattle.model.specs.Calls.{all_in_range}
-use Rattle.machine.proofs.RecordLaws.{range-next, range-end}
 use Rattle.machine.proofs.checks.values_fit.Given as goal
 
 abbrev pub invariant-loop-i : goal.invariant-loop-i

@@ -1,12 +1,11 @@
 -- `held_short` meets its contract. Assumes nothing.
-use native.Mathlib.Omega.{arith}
 use mathlib.Core.Path.{◌≡◌, sym}
 use mathlib.Core.Bool.{false}
 use lib.IntN.{pos}
 use lib.Signed.{lt_z}
 use mir.Facts.{to_z-of_z}
 use Rattle.tak.specs.Records.{most32}
-use Rattle.tak.proofs.Held.{held_negative, held_above, plain, not_above, held_plain}
+use Rattle.tak.proofs.Held.{held_negative, held_above, not_above, held_plain}
 use Rattle.tak.proofs.records.held_short.Goals as goal
 
 pub returns-then-z-lt0 : goal.returns-then-z-lt0

@@ -1,6 +1,4 @@
 -- `put_record` meets its contract. Assumes nothing.
-use native.Mathlib.Omega.{arith}
-use lib.ListN.{length-set}
 use Rattle.tak.proofs.Fields.{stores}
 use Rattle.tak.proofs.records.put_record.Goals as goal
 

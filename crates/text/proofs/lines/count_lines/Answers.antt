@@ -1,9 +1,7 @@
 -- `lines::count_lines` meets its contract: `count` lines are passed, and those from `at` on are left. Assumes nothing.
-use Prim.Native.Nat.{◌+◌, ◌-◌, ◌≤◌}
-use mathlib.Core.Path.{◌≡◌, ap}
+use mathlib.Core.Path.{ap}
 use native.Mathlib.Omega.{arith}
-use lib.ListN.{length, drop}
-use Rattle.model.specs.Load.{lines}
+use lib.ListN.{length}
 use Rattle.text.proofs.Walks.{no_lines}
 use Rattle.text.proofs.lines.count_lines.Goals as goal
 

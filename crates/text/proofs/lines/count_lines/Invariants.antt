@@ -1,9 +1,7 @@
 use Prim.Native.Nat.{◌+◌, ◌-◌, ◌≤◌}
-use mathlib.Core.Path.{◌≡◌, ap}
-use native.Mathlib.Omega.{arith}
+use mathlib.Core.Path.{◌≡◌}
 use lib.ListN.{length, drop}
 use Rattle.model.specs.Load.{lines}
-use Rattle.text.proofs.Walks.{no_lines}
 use Rattle.text.proofs.lines.count_lines.Given as goal
 
 abbrev pub invariant-loop-at : goal.invariant-loop-at

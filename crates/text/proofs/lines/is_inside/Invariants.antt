@@ -1,12 +1,7 @@
 use Prim.Native.Nat.{◌+◌, ◌-◌, ◌≤◌}
-use mathlib.Core.Path.{◌≡◌, sym, ◌∙◌}
-use mathlib.Core.Bool.{true, true≢false}
-use native.Mathlib.Omega.{arith}
-use lib.ListN.{get_or}
-use borrow.Author.Tests.{eq-eqb}
-use Rattle.model.proofs.Fits.{both}
+use mathlib.Core.Path.{◌≡◌}
+use mathlib.Core.Bool.{true}
 use Rattle.text.specs.Lines.{NoLineFeed}
-use Rattle.text.proofs.Walks.{feed-next}
 use Rattle.text.proofs.lines.is_inside.Given as goal
 
 abbrev pub invariant-loop-j : goal.invariant-loop-j

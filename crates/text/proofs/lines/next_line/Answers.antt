@@ -1,11 +1,7 @@
 -- `lines::next_line` meets its contract: the lines from p on are those from i on behind the part up to i. Assumes nothing.
-use Prim.Native.Nat.{◌-◌, ◌≤◌}
-use mathlib.Core.Path.{◌≡◌, ◌∙◌}
+use mathlib.Core.Path.{◌∙◌}
 use native.Mathlib.Omega.{arith}
 use borrow.Author.Rules.{rules}
-use lib.ListN.{length, drop}
-use Rattle.model.specs.Load.{lines_from, lines}
-use Rattle.text.specs.Parts.{part}
 use Rattle.text.proofs.Walks.{last_line, line-ends, line-more, line-begins}
 use Rattle.text.proofs.lines.next_line.Goals as goal
 

@@ -1,11 +1,8 @@
 use Prim.Native.Nat.{◌-◌, ◌≤◌}
-use mathlib.Core.Path.{◌≡◌, ◌∙◌}
-use native.Mathlib.Omega.{arith}
-use borrow.Author.Rules.{rules}
+use mathlib.Core.Path.{◌≡◌}
 use lib.ListN.{length, drop}
 use Rattle.model.specs.Load.{lines_from, lines}
 use Rattle.text.specs.Parts.{part}
-use Rattle.text.proofs.Walks.{last_line, line-ends, line-more, line-begins}
 use Rattle.text.proofs.lines.next_line.Given as goal
 
 abbrev pub invariant-loop-i : goal.invariant-loop-i

@@ -1,9 +1,6 @@
-use Prim.Native.Nat.{◌-◌, ◌+◌, ◌≤◌}
-use native.Mathlib.Omega.{arith}
+use Prim.Native.Nat.{◌-◌, ◌≤◌}
 use lib.ListN.{length}
-use borrow.Author.Tests.{not-false}
 use Rattle.text.specs.Lines.{NoLineFeed}
-use Rattle.text.proofs.Walks.{feeds-more}
 use Rattle.text.proofs.lines.skip_blocks.Given as goal
 
 abbrev pub invariant-loop-i : goal.invariant-loop-i

@@ -1,9 +1,6 @@
 -- `tokens::skip_blanks` meets its contract: i and the blanks from i on come to p and the blanks from p on. Assumes nothing.
-use Prim.Native.Nat.{◌+◌, ◌-◌, ◌≤◌}
-use mathlib.Core.Path.{◌≡◌, sym, ◌∙◌}
+use mathlib.Core.Path.{sym, ◌∙◌}
 use native.Mathlib.Omega.{arith}
-use lib.ListN.{length, drop}
-use Rattle.model.specs.Step.{blanks_of}
 use Rattle.text.proofs.Walks.{blanks-end, blank, no-blank}
 use Rattle.text.proofs.tokens.skip_blanks.Goals as goal
 

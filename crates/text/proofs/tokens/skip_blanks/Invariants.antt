@@ -1,9 +1,7 @@
 use Prim.Native.Nat.{◌+◌, ◌-◌, ◌≤◌}
-use mathlib.Core.Path.{◌≡◌, sym, ◌∙◌}
-use native.Mathlib.Omega.{arith}
+use mathlib.Core.Path.{◌≡◌}
 use lib.ListN.{length, drop}
 use Rattle.model.specs.Step.{blanks_of}
-use Rattle.text.proofs.Walks.{blanks-end, blank, no-blank}
 use Rattle.text.proofs.tokens.skip_blanks.Given as goal
 
 abbrev pub invariant-loop-i : goal.invariant-loop-i

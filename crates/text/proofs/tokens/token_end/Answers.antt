@@ -1,13 +1,7 @@
 -- `tokens::token_end` meets its contract: the token from a is the part up to i and the token from i. Assumes nothing.
-use Prim.Native.Nat.{◌-◌, ◌≤◌}
-use mathlib.Core.Path.{◌≡◌, sym, ◌∙◌}
-use mathlib.Core.List.{◌++◌}
+use mathlib.Core.Path.{sym, ◌∙◌}
 use borrow.Author.Rules.{rules}
 use borrow.Author.Tests.{not-true, not-false}
-use lib.ListN.{length, drop}
-use Rattle.model.specs.Step.{token_of}
-use Rattle.text.specs.Parts.{part}
-use Rattle.text.proofs.Parts.{part_empty}
 use Rattle.text.proofs.Walks.{token_end, token-stop, token-more, token-found}
 use Rattle.text.proofs.tokens.token_end.Goals as goal
 

@@ -1,13 +1,9 @@
 use Prim.Native.Nat.{◌-◌, ◌≤◌}
-use mathlib.Core.Path.{◌≡◌, sym, ◌∙◌}
+use mathlib.Core.Path.{◌≡◌}
 use mathlib.Core.List.{◌++◌}
-use borrow.Author.Rules.{rules}
-use borrow.Author.Tests.{not-true, not-false}
 use lib.ListN.{length, drop}
 use Rattle.model.specs.Step.{token_of}
 use Rattle.text.specs.Parts.{part}
-use Rattle.text.proofs.Parts.{part_empty}
-use Rattle.text.proofs.Walks.{token_end, token-stop, token-more, token-found}
 use Rattle.text.proofs.tokens.token_end.Given as goal
 
 abbrev pub invariant-loop-i : goal.invariant-loop-i

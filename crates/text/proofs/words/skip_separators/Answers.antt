@@ -1,10 +1,6 @@
 -- `words::skip_separators` meets its contract: the words from p on are those from i on. Assumes nothing.
-use Prim.Native.Nat.{◌-◌, ◌≤◌}
-use mathlib.Core.Path.{◌≡◌, refl, sym, ◌∙◌}
-use native.Mathlib.Omega.{arith}
+use mathlib.Core.Path.{sym, ◌∙◌}
 use borrow.Author.Rules.{rules}
-use lib.ListN.{length, drop}
-use Rattle.model.specs.Load.{words}
 use Rattle.text.proofs.Walks.{skip-separator}
 use Rattle.text.proofs.words.skip_separators.Goals as goal
 

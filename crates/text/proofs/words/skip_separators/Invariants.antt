@@ -1,10 +1,7 @@
 use Prim.Native.Nat.{◌-◌, ◌≤◌}
-use mathlib.Core.Path.{◌≡◌, refl, sym, ◌∙◌}
-use native.Mathlib.Omega.{arith}
-use borrow.Author.Rules.{rules}
+use mathlib.Core.Path.{◌≡◌}
 use lib.ListN.{length, drop}
 use Rattle.model.specs.Load.{words}
-use Rattle.text.proofs.Walks.{skip-separator}
 use Rattle.text.proofs.words.skip_separators.Given as goal
 
 abbrev pub invariant-loop-i : goal.invariant-loop-i

@@ -1,13 +1,8 @@
 -- `words::word_end` meets its contract: the words from a on are those from i on behind the part up to i. Assumes nothing.
-use Prim.Native.Nat.{◌-◌, ◌≤◌}
-use mathlib.Core.Path.{◌≡◌, sym, ◌∙◌}
+use mathlib.Core.Path.{sym, ◌∙◌}
 use native.Mathlib.Omega.{arith}
 use borrow.Author.Rules.{rules}
 use borrow.Author.Tests.{not-true, not-false}
-use lib.ListN.{length, drop}
-use Rattle.model.specs.Load.{words_from, words}
-use Rattle.text.specs.Parts.{part}
-use Rattle.text.proofs.Parts.{part_empty}
 use Rattle.text.proofs.Walks.{last_word, word-ends, word_more}
 use Rattle.text.proofs.words.word_end.Goals as goal
 

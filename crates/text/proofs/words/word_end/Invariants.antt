@@ -1,13 +1,8 @@
 use Prim.Native.Nat.{◌-◌, ◌≤◌}
-use mathlib.Core.Path.{◌≡◌, sym, ◌∙◌}
-use native.Mathlib.Omega.{arith}
-use borrow.Author.Rules.{rules}
-use borrow.Author.Tests.{not-true, not-false}
+use mathlib.Core.Path.{◌≡◌}
 use lib.ListN.{length, drop}
 use Rattle.model.specs.Load.{words_from, words}
 use Rattle.text.specs.Parts.{part}
-use Rattle.text.proofs.Parts.{part_empty}
-use Rattle.text.proofs.Walks.{last_word, word-ends, word_more}
 use Rattle.text.proofs.words.word_end.Given as goal
 
 abbrev pub invariant-loop-i : goal.invariant-loop-i
