@@ -1,17 +1,31 @@
-"""Holds what the crates can reach of C to what may be assumed: axioms.py CRATES.TXT CRATES LOGS
+"""Holds what the crates can reach of C to what may be assumed: axioms.py CRATES.TXT CRATES LOGS PROGRAMS
 
 No library crate reaches a C function: none lists a library of the kit, and the code that was built of it names only functions of this repository and of
-`core`, which declares none. Each program assumes the contracts of exactly the C functions below, and the static library of none, as the reports of their
-checks name them (target/log); no crate of ours declares one.
+`core`, which declares none. The verdict on each program rests on the contracts of exactly the C functions below, and that on the static library on none,
+as the reports of their checks name them (target/log); no crate of ours declares one. A linked program calls exactly the functions below.
 """
 import os
 import re
+import subprocess
 import sys
 
+READ_WRITE = {"libc::read", "libc::write"}
+# What the kit's trait for files has contracts of, though `takrun` calls few of them.
+FILES = (
+    "chmod chown close fchmod fdatasync flock fsync ftruncate futimens lchown link lseek mkdir net::bind pipe2 readlink realpath rename rmdir statx symlink unlink"
+)
+OF_OS = "fcntl getdents64 open rattle_errno rattle_open_dir_at rattle_set_errno unlinkat"
+HEAP = {f"libc::heap::rattle_{name}" for name in ("alloc", "dealloc", "realloc")}
 ASSUMED = {
-    "takrun": set(),
-    "replay": set(),
+    "takrun": READ_WRITE | {f"libc::{name}" for name in FILES.split()} | {f"os::c::{name}" for name in OF_OS.split()},
+    "replay": READ_WRITE | HEAP | {"os::c::__xpg_strerror_r", "os::c::rattle_errno"},
 }
+# Besides what the compiler calls by itself. At its start a program has signals of broken pipes ignored (`signal`).
+CALLED = {
+    "takrun": {"open", "read", "write", "close", "__errno_location", "__sysv_signal"},
+    "replay": {"read", "write", "malloc", "realloc", "free", "__xpg_strerror_r", "__errno_location", "__sysv_signal"},
+}
+BY_ITSELF = {"__libc_start_main", "memcpy", "memmove", "memset"}
 # The libraries of the kit that declare C functions.
 DECLARE = {"libc", "os", "std"}
 
@@ -51,6 +65,12 @@ def wrong_in(crate, report, may):
     if names != may:
         return f"beyond the list: {', '.join(sorted(names - may)) or 'none'}; missing: {', '.join(sorted(may - names)) or 'none'}"
     return None
+
+
+def wrong_in_program(symbols, may):
+    """What a linked program calls that it must not, or does not call; by the lines of nm, without what may be missing (w)."""
+    names = set(re.findall(r"^ +U (\w+)(?:@.*)?$", symbols, re.M)) - BY_ITSELF
+    return None if names == may else f"it calls beyond the list: {', '.join(sorted(names - may)) or 'none'}; missing: {', '.join(sorted(may - names)) or 'none'}"
 
 
 def wrong_in_library(crate, lists, code, ours):
@@ -106,8 +126,15 @@ def altered_code(crate, code):
     yield "code in another form", code.replace(f'"{crate}::', '"')
 
 
+def altered_symbols(symbols, may):
+    """Programs that must be found wrong."""
+    yield "a call of unlink", symbols + "                 U unlink@GLIBC_2.2.5\n"
+    for name in sorted(may):
+        yield f"no call of {name}", replaced(symbols, rf" U {name}(@.*)?$", " w another")
+
+
 def main():
-    crates_txt, folder, logs = sys.argv[1:]
+    crates_txt, folder, logs, programs = sys.argv[1:]
     ours = listed(crates_txt)
     passed, wrong = 0, []
 
@@ -133,6 +160,12 @@ def main():
             if wrong_in(crate, report, may) is None:
                 for what, text in altered(crate, report, may):
                     found(f"{crate} with {what}", wrong_in(crate, text, may))
+            if not is_static:
+                symbols = subprocess.run(["nm", "-D", "--undefined-only", os.path.join(programs, crate)], check=True, capture_output=True, text=True).stdout
+                count(crate, wrong_in_program(symbols, CALLED[crate]))
+                if wrong_in_program(symbols, CALLED[crate]) is None:
+                    for what, text in altered_symbols(symbols, CALLED[crate]):
+                        found(f"{crate} with {what}", wrong_in_program(text, CALLED[crate]))
         else:
             with open(os.path.join(folder, crate, "out", "rlib", f"{crate}.rlib", "toolchain", "mir.json"), encoding="utf-8") as f:
                 code = f.read()

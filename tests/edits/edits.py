@@ -230,13 +230,19 @@ def record_faults(edit, record):
         yield from refusal_faults(edit, kept["lines"].get(edit.label, []))
 
 
-def dependencies():
-    """Each crate of crates.txt with those below it, the lowest first."""
-    below = {}
+def lines_of_crates():
+    """Each line of crates.txt by the crate that it lists."""
+    lines = {}
     for line in (ROOT / "crates.txt").read_text().split("\n"):
-        head, colon, names = line.partition("#")[0].partition(":")
+        head, colon, _ = line.partition("#")[0].partition(":")
         if colon:
-            below[head.split()[0]] = names.split()
+            lines[head.split()[0]] = line.partition("#")[0]
+    return lines
+
+
+def dependencies():
+    """Each crate of crates.txt with those of the repository below it, the lowest first."""
+    below = {name: line.partition(":")[2].split() for name, line in lines_of_crates().items()}
 
     def all_below(name):
         found = []
@@ -271,20 +277,21 @@ def recorded(name, below):
     with tempfile.TemporaryDirectory(prefix="edits-") as room:
         room = pathlib.Path(room)
         (room / ".git").mkdir()
-        for file in ("crates.txt", "HANDLES"):
-            if (ROOT / file).is_file():
-                shutil.copy2(ROOT / file, room / file)
+        listed = lines_of_crates()
+        (room / "crates.txt").write_text("".join(f"{listed[other]}\n" for other in [*below, name]))
+        if (ROOT / "HANDLES").is_file():
+            shutil.copy2(ROOT / "HANDLES", room / "HANDLES")
         for other in [*below, name]:
             for part in ("src", "specs", "proofs"):
                 if (ROOT / "crates" / other / part).is_dir():
                     shutil.copytree(ROOT / "crates" / other / part, room / "crates" / other / part)
             copied(ROOT / "crates" / other / "out" / "rlib", room / "crates" / other / "out" / "rlib")
         copy = room / "crates" / name
-        shutil.copytree(ROOT / "crates" / name / "out" / "incremental", copy / "out" / "incremental", dirs_exist_ok=True) if (
-            ROOT / "crates" / name / "out" / "incremental"
-        ).is_dir() else None
-        if "\nlogic=proved" not in checked(copy):
-            return None, [f"{name}: it is not proved, so that nothing can be recorded of its edits"]
+        if (crate / "out" / "incremental").is_dir():
+            shutil.copytree(crate / "out" / "incremental", copy / "out" / "incremental")
+        log = checked(copy)
+        if "\nlogic=proved" not in log:
+            return None, [f"{name}: it is not proved, so that nothing can be recorded of its edits: {in_one_line(log[-KEPT:])}"]
         for path in sorted(crate.glob("must-fail/*.edit")):
             edits, texts = edits_of(path), {}
             bad = [f"{edit.name}: {fault}" for edit in edits for fault in text_faults(edit, texts)]
