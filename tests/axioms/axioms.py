@@ -1,8 +1,8 @@
 """Holds what the crates can reach of C to what may be assumed: axioms.py CRATES.TXT CRATES LOGS PROGRAMS
 
-No library crate reaches a C function: none lists a library of the kit, and the code that was built of it names only functions of this repository and of
-`core`, which declares none. The verdict on each program rests on the contracts of exactly the C functions below, and that on the static library on none,
-as the reports of their checks name them (target/log); no crate of ours declares one. A linked program calls exactly the functions below.
+No library crate reaches a C function: none lists a library of the kit, and the code that was built of it names only functions of this repository and
+of `core`, which declares none. The verdict on each program rests on the contracts of exactly the C functions below, and that on the static library on
+none, as the reports of their checks name them (target/log); no crate of ours declares one. A linked program calls exactly the functions below.
 """
 import os
 import re
@@ -12,7 +12,8 @@ import sys
 READ_WRITE = {"libc::read", "libc::write"}
 # What the kit's trait for files has contracts of, though `takrun` calls few of them.
 FILES = (
-    "chmod chown close fchmod fdatasync flock fsync ftruncate futimens lchown link lseek mkdir net::bind pipe2 readlink realpath rename rmdir statx symlink unlink"
+    "chmod chown close fchmod fdatasync flock fsync ftruncate futimens lchown link lseek mkdir net::bind pipe2 readlink realpath rename rmdir statx"
+    " symlink unlink"
 )
 OF_OS = "fcntl getdents64 open rattle_errno rattle_open_dir_at rattle_set_errno unlinkat"
 HEAP = {f"libc::heap::rattle_{name}" for name in ("alloc", "dealloc", "realloc")}
@@ -43,7 +44,11 @@ def last_report(text):
     return text[max((m.end() for m in list(re.finditer(r"^logic=.*\n", text, re.M))[:-1]), default=0) :]
 
 
-def wrong_in(crate, report, may):
+def beyond(names, may):
+    return f"beyond the list: {', '.join(sorted(names - may)) or 'none'}; missing: {', '.join(sorted(may - names)) or 'none'}"
+
+
+def wrong_in(report, may):
     """What the report of a program or a static library has that it must not have, or lacks; None if nothing."""
     verdicts = re.findall(r"^logic=.*$", report, re.M)
     if len(verdicts) != 1 or not verdicts[0].startswith("logic=proved "):
@@ -63,14 +68,14 @@ def wrong_in(crate, report, may):
     if int(words.get("axioms", "0")) != len(names):
         return f"the count of axioms ({words.get('axioms', '0')}) is not that of the names: {', '.join(sorted(names))}"
     if names != may:
-        return f"beyond the list: {', '.join(sorted(names - may)) or 'none'}; missing: {', '.join(sorted(may - names)) or 'none'}"
+        return beyond(names, may)
     return None
 
 
 def wrong_in_program(symbols, may):
     """What a linked program calls that it must not, or does not call; by the lines of nm, without what may be missing (w)."""
     names = set(re.findall(r"^ +U (\w+)(?:@.*)?$", symbols, re.M)) - BY_ITSELF
-    return None if names == may else f"it calls beyond the list: {', '.join(sorted(names - may)) or 'none'}; missing: {', '.join(sorted(may - names)) or 'none'}"
+    return None if names == may else f"it calls {beyond(names, may)}"
 
 
 def wrong_in_library(crate, lists, code, ours):
@@ -93,20 +98,22 @@ def replaced(text, old, new):
     return re.sub(old, new, text, flags=re.M)
 
 
-def altered(crate, report, may):
+def altered(report, may):
     """Reports that must be found wrong: what was done, and the report."""
     count = len(may)
     another = r"^(axioms libc: )\w+( reached.*)\n"
     more = rf"\g<1>{sum(name.startswith('libc::') for name in may) + 1}\2\n  libc::another   reached\n"
-    axioms = rf"^logic=proved (.*?)(axioms=\d+ )?target="
+    axioms = r"^logic=proved (.*?)(axioms=\d+ )?target="
     yield "a C function more", replaced(replaced(report, another, more), axioms, rf"logic=proved \1axioms={count + 1} target=")
     yield "one that is named and not counted", replaced(report, another, r"\1none\2\n  libc::another   reached\n")
     yield "one that is named and not counted in the verdict", replaced(report, another, more)
     yield "one that is counted and not named", replaced(report, axioms, rf"logic=proved \1axioms={count + 1} target=")
     yield "a C function of its own", replaced(report, r"^logic=proved ", "logic=proved foreign=machine::magic ")
-    yield "a C function of a crate of ours", replaced(report, r"^axioms std:", "axioms machine: 1 reached of the 1 declared\n  machine::magic   reached\naxioms std:")
+    ours = "axioms machine: 1 reached of the 1 declared\n  machine::magic   reached\naxioms std:"
+    yield "a C function of a crate of ours", replaced(report, r"^axioms std:", ours)
     yield "nothing said of os", re.sub(r"^axioms os: .*\n", "", report, flags=re.M)
-    yield "a report that names the first of them", replaced(report, r"^axioms libc: .*$", "axioms libc: libc::read, libc::write, ... (4 of the 128 declared)")
+    first = "axioms libc: libc::read, libc::write, ... (4 of the 128 declared)"
+    yield "a report that names the first of them", replaced(report, r"^axioms libc: .*$", first)
     yield "not proved", replaced(report, r"^logic=proved", "logic=not-proved")
     yield "no verdict", replaced(report, r"^logic=.*\n", "")
     yield "the report of a library", replaced(report, r" target=\S+", "")
@@ -156,12 +163,13 @@ def main():
                 continue
             may = set() if is_static else ASSUMED[crate]
             others = set(lists) - set(ours)
-            count(crate, f"it lists {', '.join(sorted(others))} of the kit" if others else wrong_in(crate, report, may))
-            if wrong_in(crate, report, may) is None:
-                for what, text in altered(crate, report, may):
-                    found(f"{crate} with {what}", wrong_in(crate, text, may))
+            count(crate, f"it lists {', '.join(sorted(others))} of the kit" if others else wrong_in(report, may))
+            if wrong_in(report, may) is None:
+                for what, text in altered(report, may):
+                    found(f"{crate} with {what}", wrong_in(text, may))
             if not is_static:
-                symbols = subprocess.run(["nm", "-D", "--undefined-only", os.path.join(programs, crate)], check=True, capture_output=True, text=True).stdout
+                asked = ["nm", "-D", "--undefined-only", os.path.join(programs, crate)]
+                symbols = subprocess.run(asked, check=True, capture_output=True, text=True).stdout
                 count(crate, wrong_in_program(symbols, CALLED[crate]))
                 if wrong_in_program(symbols, CALLED[crate]) is None:
                     for what, text in altered_symbols(symbols, CALLED[crate]):

@@ -5,15 +5,15 @@ A file has one edit, whose label is the file's name; or wrong functions of one c
 by itself.
 
 Each edit is of src/ or specs/, so that the proof of the right program meets the wrong one; PROOF_PARTS has those that follow it in a proof.
-Each old text is in its file exactly once, as `rt must-fail` asks. Each edit that docs/ARCHITECTURE.md names is there. `rt must-fail`, which
-knows what the gate's `rt ci` found, says of each file that it is refused, for more than its proof's form.
+Each old text is in its file exactly once, as `rt must-fail` asks. Each edit that docs/ARCHITECTURE.md names is there. And `rt must-fail`,
+which tries again nothing that the gate's `rt ci` tried, says of each file that it is refused, for more than its proof's form.
 
-`rt` prints one line of a file's log and keeps no more. So the logs were read when they were made: `tests/edits/run --record [CRATE..]` checks each
-file of edits in a copy, and tests/edits/refused/CRATE.json keeps of each edit what the check said of its own function, beside a sum of the crate's
-files and of the edit. This test finds in it an error of its own for each edit, and as the first one no name that the proof uses and the wrong
-program has not got. Where a crate or an edit has changed since, it says so: record it again.
+Of a file's log `rt` shows one line and keeps nothing. So the logs are read where they are made: `tests/edits/run --record [CRATE..]` has each
+file of edits checked in a copy, and tests/edits/refused/CRATE.json keeps what the check said of each edit's own function, with sums of the crate's
+files and of the edit. This test finds there an error of its own for each edit, and as the first one no name that the proof uses and the wrong
+program has not got. Where the crate, the edit or the kit is another one than was recorded, it fails and says what to record again.
 
---without-rt, for use outside the gate, leaves `rt` out and says so.
+--without-rt, for use outside the gate, asks `rt` nothing and says so.
 """
 import hashlib
 import json
@@ -37,24 +37,24 @@ PROOF_PARTS = {
 
 # A proof that names a goal, or a fact before a step, that is not there shows nothing about the program.
 MISFITS = [
-    re.compile(r"has no `[^`]*` that can be named from here"),
-    re.compile(r"error: (?:`[^`]*`: )?(?:`[^`]*`: )?record `"),
+    re.compile(r"module `[^`]*` has no `"),
+    re.compile(r"error: (?:`[^`]*`: )*record `"),
     re.compile(r"has no field `"),
     re.compile(r"is not in scope"),
 ]
 
-# What follows from another declaration's refusal is no error of a function's own.
+# What follows from another declaration's refusal is no error of its own.
 FOLLOWS = re.compile(r"was not admitted|depends? on `[^`]*`, which was rejected")
 
-# An error, with the lines that go on with it; a goal that no answer file has and that the search does not prove; what came of a function.
-ERROR = re.compile(r"^\S+:\d+:\d+: error: .*?(?=\n\S|\Z)", re.DOTALL | re.MULTILINE)
-OPEN = re.compile(r"^note: (src/\S+\.rt):(\d+):\d+: it is not proved that .*$", re.MULTILINE)
-VERDICT = re.compile(r"^fn (\S+): (not proved|no proof: .*)$|^fn (\S+): (not proved; .*)$", re.MULTILINE)
-UNPROVED = re.compile(r"`search` did not prove `")
+# Of a log: an error, with the lines that go on with it, and the file that it is in; what a function came to, if it is not proved.
+ERROR = re.compile(r"^(\S+):\d+:\d+: error: .*?(?=\n\S|\Z)", re.DOTALL | re.MULTILINE)
+VERDICT = re.compile(r"^fn (\S+): (?:not proved|no proof: ).*$", re.MULTILINE)
+# A goal that no proof file answers: what the search finds, it finds at the right program alone. It does not search where it waits for a callee.
+OPEN = "`search` did not prove `"
 
 FUNCTION = re.compile(r'^( *)(?:pub )?(?:extern "C" )?fn (\w+)', re.MULTILINE)
 
-# So much of a line of a log is kept.
+# So much of an error is kept.
 KEPT = 300
 
 failures = []
@@ -152,39 +152,6 @@ def wrong_function(edit):
     return found.pop() if len(found) == 1 else ("", "")
 
 
-def in_one_line(text):
-    return " ".join(text.split())[:KEPT]
-
-
-def own_lines(log, edit):
-    """What a log says of an edit's function, tried together with others: each error at its answers or invariants that does not merely follow from another,
-    and what came of it; of an edit that is tried alone, each error, and what came of functions. A line each, errors first."""
-    errors = [in_one_line(error) for error in ERROR.findall(log)]
-    errors = [error for error in errors if not FOLLOWS.search(error)]
-    verdicts = [verdict.group(0)[:KEPT] for verdict in VERDICT.finditer(log)]
-    if edit.together:
-        file, function = wrong_function(edit)
-        module = pathlib.PurePosixPath(file).stem
-        inside = [] if module in ("lib", "main") else [module]
-        proof = "/".join(["/proofs", *inside, function, ""])
-        name = "::".join([edit.crate.name, *inside, function])
-        errors = [error for error in errors if proof in error.partition(": error: ")[0]]
-        verdicts = [verdict for verdict in verdicts if verdict.startswith(f"fn {name}: ")]
-    return errors + verdicts
-
-
-def refusal_faults(edit, lines):
-    """What is wrong with the lines that a log has of an edit."""
-    errors = [line for line in lines if ": error: " in line]
-    if not errors and not any(UNPROVED.search(line) for line in lines):
-        yield "no error of its own: it is not refused, or only for what follows from another refusal"
-    # Later errors may follow from the form: another test or another arm gives the facts behind it other names.
-    for misfit in MISFITS:
-        if errors and misfit.search(errors[0]):
-            yield f"it is refused for its proof's form: {errors[0]}"
-            break
-
-
 def together_faults(edits):
     """What is wrong with edits that are tried together."""
     places = [wrong_function(e) for e in edits]
@@ -197,7 +164,81 @@ def together_faults(edits):
             yield f"{edit.name} changes a contract, on which other proofs rest"
 
 
-# THE RECORD
+# LOGS
+
+
+def in_one_line(text):
+    return " ".join(text.split())[:KEPT]
+
+
+def lines_of(log, crate, place=None):
+    """The errors of a log that do not merely follow from another one, and what functions came to that are not proved, a line each; of the function at
+    this place alone, if there is one."""
+    errors = [(error.group(1), in_one_line(error.group(0))) for error in ERROR.finditer(log) if not FOLLOWS.search(in_one_line(error.group(0)))]
+    verdicts = [(verdict.group(1), in_one_line(verdict.group(0))) for verdict in VERDICT.finditer(log)]
+    if place:
+        file, function = place
+        module = pathlib.PurePosixPath(file).stem
+        inside = [] if module in ("lib", "main") else [module]
+        # a method has its type's name before its own
+        proof = re.compile("/".join([r"(?:\./|.*/)?proofs", *inside, rf"(?:[A-Z]\w*/)?{function}", r"\w+\.antt"]))
+        name = re.compile("::".join([crate, *inside, rf"(?:[A-Z]\w*::)?{function}"]))
+        errors = [it for it in errors if proof.fullmatch(it[0])]
+        verdicts = [it for it in verdicts if name.fullmatch(it[0])]
+    return [line for _, line in errors], [line for _, line in verdicts]
+
+
+def own_lines(log, edit):
+    """What a log says of an edit: the first error, and what its function came to."""
+    errors, verdicts = lines_of(log, edit.crate.name, wrong_function(edit) if edit.together else None)
+    return errors[:1] + verdicts[:1]
+
+
+def refusal_faults(lines):
+    """What is wrong with what a log says of an edit."""
+    errors = [line for line in lines if ": error: " in line]
+    if not errors and not any(OPEN in line for line in lines):
+        yield "no error of its own: it is not refused, or only for what follows from another refusal"
+    # Later errors may follow from the form: another test or another arm gives the facts behind it other names.
+    if errors and any(misfit.search(errors[0]) for misfit in MISFITS):
+        yield f"it is refused for its proof's form: {errors[0]}"
+
+
+def others_refused(log, edits):
+    """The functions beside the edits' own that a log refuses for more than what they call. There are none, so that what is said of an edit's function is
+    said of that edit."""
+    places = [wrong_function(edit) for edit in edits]
+    crate = edits[0].crate.name
+    own = [line for place in places for lines in lines_of(log, crate, place) for line in lines]
+    errors, verdicts = lines_of(log, crate)
+    return [line for line in errors + [it for it in verdicts if OPEN in it] if line not in own]
+
+
+# Lines of a log, and whether they are an error of the edit's own.
+MADE_LOGS = [
+    (
+        "loader/key_not_compared",
+        "./proofs/names/find_key/Answers.antt:32:1: error: `returns`: the two types\n  differ\nfn loader::names::find_key: not proved\n",
+        True,
+    ),
+    ("loader/key_not_compared", "./proofs/names/find_name/Answers.antt:32:1: error: `returns`: the two types differ\n", False),
+    (
+        "loader/key_not_compared",
+        "./proofs/names/find_key/Answers.antt:49:1: error: 2 declarations that depend on `held`, which was\n  rejected, were not checked: returns\n",
+        False,
+    ),
+    (
+        "loader/key_not_compared",
+        "./proofs/names/find_key/Answers.antt:4:1: error: `returns`: record `X` (nearest: .a)\n  has no field `b`\nfn loader::names::find_key: not proved\n",
+        False,
+    ),
+    ("loader/key_not_compared", "fn loader::names::find_key: no proof: expected answers in x; `search` did not prove `returns`\n", True),
+    ("loader/key_not_compared", "fn loader::names::find_key: no proof: it calls `loader::names::place`, which is not proved\n", False),
+    ("loader/key_not_compared", "fn loader::names::find_key: proved\n", False),
+]
+
+
+# WHAT IS RECORDED
 
 
 def sum_of(path):
@@ -218,16 +259,29 @@ def record_of(crate):
     return json.loads(path.read_text()) if path.is_file() else {}
 
 
+def crate_faults(crate, record, kit):
+    """What is wrong with a record of a crate's edits; `kit` is None if it is not to be compared."""
+    again = f"run tests/edits/run --record {crate.name}"
+    if not record:
+        yield f"nothing is recorded of its edits: {again}"
+    elif record["crate"] != sum_of_crate(crate):
+        yield f"it has changed since its edits were recorded: {again}"
+    elif kit and record["kit"] != kit:
+        yield f"its edits were recorded with {record['kit']}: {again}"
+
+
 def record_faults(edit, record):
-    """What is wrong with what was recorded of an edit."""
-    again = f"run tests/edits/run --record {edit.crate.name}"
-    kept = record.get("edits", {}).get(edit.path.name)
-    if not kept:
-        yield f"nothing is recorded of its refusal: {again}"
-    elif kept["sum"] != sum_of(edit.path):
-        yield f"its file has changed since its refusal was recorded: {again}"
+    """What is wrong with what is recorded of an edit."""
+    kept = record.get("edits", {}).get(edit.path.name, {"sum": None, "lines": {}})
+    if kept["sum"] != sum_of(edit.path):
+        yield f"its file is not the one whose refusal was recorded: run tests/edits/run --record {edit.crate.name}"
     else:
-        yield from refusal_faults(edit, kept["lines"].get(edit.label, []))
+        yield from refusal_faults(kept["lines"].get(edit.label, []))
+
+
+def said_by(words, folder=ROOT):
+    ran = subprocess.run(words, cwd=folder, stdin=subprocess.DEVNULL, stdout=subprocess.PIPE, stderr=subprocess.STDOUT, errors="replace")
+    return ran.stdout
 
 
 def lines_of_crates():
@@ -240,100 +294,92 @@ def lines_of_crates():
     return lines
 
 
-def dependencies():
-    """Each crate of crates.txt with those of the repository below it, the lowest first."""
-    below = {name: line.partition(":")[2].split() for name, line in lines_of_crates().items()}
-
-    def all_below(name):
-        found = []
-        for other in below[name]:
-            if other in below:
-                found += [it for it in [*all_below(other), other] if it not in found]
-        return found
-
-    return {name: all_below(name) for name in below}
+def below(name, lines):
+    """The crates of the repository below one, each behind those that it uses."""
+    found = []
+    for other in lines[name].partition(":")[2].split():
+        if other in lines:
+            found += [it for it in [*below(other, lines), other] if it not in found]
+    return found
 
 
-def copied(folder, to):
-    """Copies what a check keeps, by links where these can be made: a check replaces such a file, and changes none."""
-
-    def copy(one, other):
-        try:
-            return os.link(one, other)
-        except OSError:
-            return shutil.copy2(one, other)
-
-    if folder.is_dir():
-        shutil.copytree(folder, to, copy_function=copy)
+def linked(one, to):
+    """Gives a file a second name where that can be done: a check replaces such a file, and changes none."""
+    try:
+        os.link(one, to)
+    except OSError:
+        shutil.copy2(one, to)
 
 
-def checked(crate):
-    return subprocess.run(["rt", "check", "--jobs", "1"], cwd=crate, stdin=subprocess.DEVNULL, stdout=subprocess.PIPE, stderr=subprocess.STDOUT, errors="replace").stdout
+def copied(name, room):
+    """Copies a crate and those below it, with the libraries that were built and what was kept of the crate's check; the crate's folder."""
+    lines = lines_of_crates()
+    names = [*below(name, lines), name]
+    (room / ".git").mkdir()
+    (room / "crates.txt").write_text("".join(f"{lines[it]}\n" for it in names))
+    if (ROOT / "HANDLES").is_file():
+        shutil.copy2(ROOT / "HANDLES", room / "HANDLES")
+    for it in names:
+        for part in ("src", "specs", "proofs", "out/rlib", *(["out/incremental"] if it == name else [])):
+            if (ROOT / "crates" / it / part).is_dir():
+                shutil.copytree(ROOT / "crates" / it / part, room / "crates" / it / part, copy_function=linked if part == "out/rlib" else shutil.copy2)
+    return room / "crates" / name
 
 
-def recorded(name, below):
-    """Checks each file of a crate's edits in a copy, begun with what the crate's own check keeps; the record, and what is wrong."""
-    crate, faults, kept = ROOT / "crates" / name, [], {}
+def recorded(name, kit):
+    """What the checks of a crate's edits say, and what is wrong with that."""
+    crate, words = ROOT / "crates" / name, ["rt", "check", "--jobs", "1"]
+    record, faults = {"kit": kit, "crate": sum_of_crate(crate), "edits": {}}, []
     with tempfile.TemporaryDirectory(prefix="edits-") as room:
-        room = pathlib.Path(room)
-        (room / ".git").mkdir()
-        listed = lines_of_crates()
-        (room / "crates.txt").write_text("".join(f"{listed[other]}\n" for other in [*below, name]))
-        if (ROOT / "HANDLES").is_file():
-            shutil.copy2(ROOT / "HANDLES", room / "HANDLES")
-        for other in [*below, name]:
-            for part in ("src", "specs", "proofs"):
-                if (ROOT / "crates" / other / part).is_dir():
-                    shutil.copytree(ROOT / "crates" / other / part, room / "crates" / other / part)
-            copied(ROOT / "crates" / other / "out" / "rlib", room / "crates" / other / "out" / "rlib")
-        copy = room / "crates" / name
-        if (crate / "out" / "incremental").is_dir():
-            shutil.copytree(crate / "out" / "incremental", copy / "out" / "incremental")
-        log = checked(copy)
+        copy = copied(name, pathlib.Path(room))
+        log = said_by(words, copy)
         if "\nlogic=proved" not in log:
-            return None, [f"{name}: it is not proved, so that nothing can be recorded of its edits: {in_one_line(log[-KEPT:])}"]
+            return None, [f"{name}: it is not proved, so that nothing can be recorded of its edits: {' '.join(log.split())[-KEPT:]}"]
         for path in sorted(crate.glob("must-fail/*.edit")):
             edits, texts = edits_of(path), {}
             bad = [f"{edit.name}: {fault}" for edit in edits for fault in text_faults(edit, texts)]
+            faults += bad
             if bad:
-                faults += bad
                 continue
             for file, text in texts.items():
                 (copy / file).write_text(text)
-            log = checked(copy)
+            log = said_by(words, copy)
             for file in texts:
-                shutil.copy2(crate / file, copy / file)
+                shutil.copyfile(crate / file, copy / file)
             if "\nlogic=not-proved" not in log:
-                faults.append(f"{name}/{path.name}: the check does not say that it is refused")
-            lines = {edit.label: own_lines(log, edit) for edit in edits}
-            kept[path.name] = {"sum": sum_of(path), "lines": {label: of[:1] + [it for it in of[1:] if ": error: " not in it][:3] for label, of in lines.items()}}
-            print(f"{name}/{path.name} is recorded", flush=True)
-    return {"crate": sum_of_crate(crate), "edits": kept}, faults
+                faults.append(f"{name}/{path.name}: its check does not end in a refusal: {' '.join(log.split())[-KEPT:]}")
+            if edits[0].together:
+                faults += [f"{name}/{path.name}: no function of an edit, and refused too: {line}" for line in others_refused(log, edits)]
+            record["edits"][path.name] = {"sum": sum_of(path), "lines": {edit.label: own_lines(log, edit) for edit in edits}}
+            print(f"{name}/{path.name}: checked", flush=True)
+    if record["crate"] != sum_of_crate(crate):
+        return None, [f"{name}: it was changed meanwhile"]
+    return record, faults
 
 
 def record(names):
-    """Records the edits of these crates, or of all whose record is not theirs."""
-    below = dependencies()
-    has = [name for name in below if any((ROOT / "crates" / name / "must-fail").glob("*.edit"))]
-    lacking = [name for name in names if name not in has]
-    if lacking:
-        sys.exit(f"edits: {lacking[0]} is no crate with edits")
+    """Records the edits of these crates, or of each whose record is of other files or of another kit."""
+    kit = said_by(["rt", "version"]).strip()
+    crates = sorted({path.parents[1] for path in ROOT.glob("crates/*/must-fail/*.edit")})
+    for name in names:
+        if ROOT / "crates" / name not in crates:
+            sys.exit(f"edits: {name} is no crate with edits")
 
-    def is_old(name):
-        crate, kept = ROOT / "crates" / name, record_of(ROOT / "crates" / name)
+    def is_old(crate):
         sums = {path.name: sum_of(path) for path in crate.glob("must-fail/*.edit")}
-        return kept.get("crate") != sum_of_crate(crate) or {file: it["sum"] for file, it in kept.get("edits", {}).items()} != sums
+        kept = record_of(crate)
+        return any(crate_faults(crate, kept, kit)) or sums != {name: it["sum"] for name, it in kept["edits"].items()}
 
-    names = names or [name for name in has if is_old(name)]
+    names = names or [crate.name for crate in crates if is_old(crate)]
     REFUSED.mkdir(exist_ok=True)
     with ThreadPoolExecutor(max(1, (os.cpu_count() or 1) - 1)) as pool:
-        for name, (kept, faults) in zip(names, pool.map(lambda it: recorded(it, below[it]), names)):
-            if kept:
-                (REFUSED / f"{name}.json").write_text(json.dumps(kept, indent=1, ensure_ascii=False, sort_keys=True) + "\n")
+        for name, (made, faults) in zip(names, pool.map(lambda name: recorded(name, kit), names)):
             failures.extend(faults)
+            if made:
+                (REFUSED / f"{name}.json").write_text(json.dumps(made, indent=1, ensure_ascii=False, sort_keys=True) + "\n")
     for failure in failures:
         print(failure)
-    print(f"edits: recorded of {len(names)} crates; run tests/edits/run")
+    print(f"edits: recorded those of {len(names)} crates, with {len(failures)} faults; tests/edits/run reads what was recorded")
     sys.exit(1 if failures else 0)
 
 
@@ -341,32 +387,15 @@ def record(names):
 
 
 def answers_of_rt():
-    """What `rt must-fail` says of each file of edits. Behind `rt ci` it tries none again."""
-    ran = subprocess.run(["rt", "must-fail"], cwd=ROOT, stdin=subprocess.DEVNULL, stdout=subprocess.PIPE, stderr=subprocess.STDOUT, errors="replace")
-    return dict(re.findall(r"^rt: must-fail (\S+?\.edit): (.*)$", ran.stdout, re.MULTILINE))
+    """What `rt must-fail` says of each file of edits."""
+    return dict(re.findall(r"^rt: must-fail (\S+?\.edit): (.*)$", said_by(["rt", "must-fail"]), re.MULTILINE))
 
 
 def answer_faults(answer):
     if answer is None:
         yield "`rt must-fail` says nothing of it"
-    elif not answer.startswith("refused, as it must be: "):
-        yield f"`rt must-fail` does not say that it is refused for what it says of the program: {answer}"
-
-
-# Lines of a log, and whether they are an error of the edit's own.
-MADE_LOGS = [
-    ("loader/key_not_compared", "./proofs/names/find_key/Answers.antt:32:1: error: `returns`: the two types\n  differ\nfn loader::names::find_key: not proved\n", True),
-    ("loader/key_not_compared", "./proofs/names/find_name/Answers.antt:32:1: error: `returns`: the two types differ\n", False),
-    (
-        "loader/key_not_compared",
-        "./proofs/names/find_key/Answers.antt:49:1: error: 2 declarations that depend on `held`, which was\n  rejected, were not checked: returns\n",
-        False,
-    ),
-    ("loader/key_not_compared", "./proofs/names/find_key/Answers.antt:49:1: error: `returns`: record `X` (nearest: .a)\n  has no field `b`\n", False),
-    ("loader/key_not_compared", "fn loader::names::find_key: no proof: expected answers in x; `search` did not prove `returns`\n", True),
-    ("loader/key_not_compared", "fn loader::names::find_key: no proof: it calls `loader::names::place`, which is not proved\n", False),
-    ("loader/key_not_compared", "fn loader::names::find_key: proved\n", False),
-]
+    elif answer != "refused, as it must be" and not answer.startswith("refused, as it must be: "):
+        yield f"`rt must-fail` says: {answer}"
 
 
 def named_edits():
@@ -386,15 +415,15 @@ def main():
     with_rt = words != ["--without-rt"]
     if words and with_rt:
         sys.exit("usage: tests/edits/run [--without-rt | --record [CRATE..]]")
-    files = sorted(ROOT.glob("crates/*/must-fail/*.edit"))
+    kit = said_by(["rt", "version"]).strip() if with_rt else None
     answers = answers_of_rt() if with_rt else {}
+    files = sorted(ROOT.glob("crates/*/must-fail/*.edit"))
     edits, records = {}, {}
     for path in files:
         texts, here, crate = {}, edits_of(path), path.parents[1]
         if crate not in records:
             records[crate] = record_of(crate)
-            stale = records[crate].get("crate") != sum_of_crate(crate)
-            check(f"crates/{crate.name}", [f"it has changed since its edits' refusals were recorded: run tests/edits/run --record {crate.name}"] if stale else [])
+            check(f"crates/{crate.name}", list(crate_faults(crate, records[crate], kit)))
         for edit in here:
             check(edit.name, ["another edit has this name"] if edit.name in edits else [])
             edits[edit.name] = edit
@@ -403,8 +432,10 @@ def main():
         check(str(path.relative_to(ROOT)), list(together_faults([e for e in here if e.together])))
         if with_rt:
             check(str(path.relative_to(ROOT)), list(answer_faults(answers.get(f"{crate.name}/{path.name}"))))
+    for path in REFUSED.glob("*.json"):
+        check(str(path.relative_to(ROOT)), [] if ROOT / "crates" / path.stem in records else ["no crate of this name has edits"])
     for name, log, own in MADE_LOGS:
-        check(name, [] if (not list(refusal_faults(edits[name], own_lines(log, edits[name])))) == own else [f"a made log is misread: {log}"])
+        check(name, [] if (not list(refusal_faults(own_lines(log, edits[name])))) == own else [f"a made log is misread: {log}"])
     for name in PROOF_PARTS:
         check(name, [] if name in edits else ["it is on the list of edits that change a proof, and is not there"])
     named = list(named_edits())
@@ -415,7 +446,7 @@ def main():
         print(failure)
     print(f"edits: {len(edits)} in {len(files)} files, of which {len(PROOF_PARTS)} change a proof; {len(named)} named in docs/ARCHITECTURE.md")
     if not with_rt:
-        print("edits: NOT TESTED, since --without-rt was given: WHETHER RT REFUSES EACH FILE TODAY")
+        print("edits: NOT TESTED, since --without-rt was given: WHETHER RT REFUSES EACH FILE, AND WITH WHICH KIT IT WAS RECORDED")
     print(f"{passed} passed, {len(failures)} failed")
     sys.exit(1 if failures else 0)
 

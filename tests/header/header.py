@@ -1,6 +1,6 @@
 """Compares the functions that the crate tak_c exports with their declarations: names, order, types, constness, lengths of slices, result; with the
-calls of the crate tak behind them, whose parameters and clauses they state word for word; and the header's constants with those of the Rust package, by
-which tests/model reads records and endings, with the source's, and with the numbers that docs/CALLS.md has beside them.
+calls of the crate tak behind them, whose parameters and clauses they state word for word; and the header's constants with those of the Rust package,
+by which tests/model reads records and endings, with the source's, and with the numbers that docs/CALLS.md has beside them.
 
 A function in one form: its name, its result, and of each parameter the name, what it is ("" a number, "in" a pointer that the call reads
 through, "out" one that it may write through) and the type of the number. A slice is two parameters, a pointer and its length.
