@@ -152,6 +152,13 @@ def wrong_function(edit):
     return found.pop() if len(found) == 1 else ("", "")
 
 
+def in_clauses(text, place):
+    """Whether a place of a source file is in a function's clauses: behind a `requires` or `ensures`, and no line has opened the body."""
+    heads = [head.start() for head in FUNCTION.finditer(text) if head.start() <= place]
+    passed = text[heads[-1] : text.find("\n", place)] if heads else ""
+    return bool(re.search(r"^\s*(requires|ensures)\b", passed, re.MULTILINE)) and not re.search(r"^\s*\{$", passed, re.MULTILINE)
+
+
 def together_faults(edits):
     """What is wrong with edits that are tried together."""
     places = [wrong_function(e) for e in edits]
@@ -160,7 +167,8 @@ def together_faults(edits):
             yield f"{edit.name} is not in one function"
         elif places.count(place) > 1:
             yield f"{edit.name} is in {place[1]}, and so is another"
-        if any("≡" in old + new for _, old, new in edit.pairs):
+        texts = {file: (edit.crate / file).read_text() for file, _, _ in edit.pairs}
+        if any("≡" in new or in_clauses(texts[file], texts[file].find(old)) for file, old, new in edit.pairs):
             yield f"{edit.name} changes a contract, on which other proofs rest"
 
 
@@ -235,6 +243,13 @@ MADE_LOGS = [
     ("loader/key_not_compared", "fn loader::names::find_key: no proof: expected answers in x; `search` did not prove `returns`\n", True),
     ("loader/key_not_compared", "fn loader::names::find_key: no proof: it calls `loader::names::place`, which is not proved\n", False),
     ("loader/key_not_compared", "fn loader::names::find_key: proved\n", False),
+]
+
+# Logs of key_not_compared, and whether they refuse a function beside its own.
+OTHERS = [
+    ("fn loader::names::find_key: not proved\nfn loader::names::find_name: no proof: it calls `loader::names::find_key`, which is not proved\n", False),
+    ("fn loader::names::find_name: no proof: expected answers in x; `search` did not prove `returns`\n", True),
+    ("./proofs/names/find_name/Answers.antt:32:1: error: `returns`: the two types differ\n", True),
 ]
 
 
@@ -350,7 +365,9 @@ def recorded(name, kit):
                 faults.append(f"{name}/{path.name}: its check does not end in a refusal: {' '.join(log.split())[-KEPT:]}")
             if edits[0].together:
                 faults += [f"{name}/{path.name}: no function of an edit, and refused too: {line}" for line in others_refused(log, edits)]
-            record["edits"][path.name] = {"sum": sum_of(path), "lines": {edit.label: own_lines(log, edit) for edit in edits}}
+            lines = {edit.label: own_lines(log, edit) for edit in edits}
+            faults += [f"{edit.name}: {fault}" for edit in edits for fault in refusal_faults(lines[edit.label])]
+            record["edits"][path.name] = {"sum": sum_of(path), "lines": lines}
             print(f"{name}/{path.name}: checked", flush=True)
     if record["crate"] != sum_of_crate(crate):
         return None, [f"{name}: it was changed meanwhile"]
@@ -436,6 +453,8 @@ def main():
         check(str(path.relative_to(ROOT)), [] if ROOT / "crates" / path.stem in records else ["no crate of this name has edits"])
     for name, log, own in MADE_LOGS:
         check(name, [] if (not list(refusal_faults(own_lines(log, edits[name])))) == own else [f"a made log is misread: {log}"])
+    for log, others in OTHERS:
+        check("others", [] if bool(others_refused(log, [edits["loader/key_not_compared"]])) == others else [f"a made log is misread: {log}"])
     for name in PROOF_PARTS:
         check(name, [] if name in edits else ["it is on the list of edits that change a proof, and is not there"])
     named = list(named_edits())
