@@ -9,7 +9,7 @@ use lib.ListN.{length, take, drop, replicate, length-drop}
 use lib.Seq.{append_snoc}
 use borrow.Author.Tests.{eqb-true, le-leb}
 use Rattle.model.specs.declared.Parameters.{Parameters}
-use Rattle.model.specs.declared.LoadReply.TheVariants.{Accepted}
+use Rattle.model.specs.Load.{Accepted}
 use Rattle.model.specs.Words.{Cell, cell_of, cell_words}
 use Rattle.model.specs.Load.{lines, lines_from, fine, line_of, lines_reply, lines_words, text_reply, image_of}
 use Rattle.model.specs.Images.{Yields, cell_fits, all_zero, cells_fit, image_fits}

@@ -10,8 +10,8 @@ use lib.Dec.{leb}
 use lib.ListN.{length, take, replicate, length-replicate}
 use borrow.Author.Tests.{leb-true}
 use Rattle.model.specs.declared.Parameters.{Parameters}
-use Rattle.model.specs.declared.LoadReply.{LoadReply}
-use Rattle.model.specs.declared.LoadReply.TheVariants.{Accepted, Refused}
+use Rattle.model.specs.Load.{LoadReply}
+use Rattle.model.specs.Load.{Accepted, Refused}
 use Rattle.model.specs.Parameters.{Check, refusal_of, Fit}
 use Rattle.model.specs.Words.{Cell, cell_words}
 use Rattle.model.specs.Load.{lines, Checked, fine, fault, words, line_of, lines_reply, lines_words, text_reply, image_of}

@@ -8,8 +8,8 @@ use lib.Dec.{leb}
 use lib.ListN.{length}
 use borrow.Author.Tests.{eq-eqb, ne_eqb, le-leb, lt-leb}
 use Rattle.model.specs.declared.Parameters.{Parameters}
-use Rattle.model.specs.declared.LoadReply.{LoadReply}
-use Rattle.model.specs.declared.LoadReply.TheVariants.{Accepted, Refused}
+use Rattle.model.specs.Load.{LoadReply}
+use Rattle.model.specs.Load.{Accepted, Refused}
 use Rattle.model.specs.Parameters.{Check, ◌unless◌, refusal_of, parameter_checks, Fit, max_text}
 use Rattle.model.specs.Load.{length_check, text_reply, load_checks, load_reply, image_after, load_numbers, numbers_of_load}
 use Rattle.model.proofs.Fits.{all_fit, parameters-numbered, refusal-first, refusal-later}

@@ -12,8 +12,8 @@ use lib.ListN.{length, get_or, set, drop, replicate, length-append, length-repli
 use lib.Seq.{sets, set_at, append_snoc, drop-cons}
 use borrow.Author.Tests.{le-leb, lt-leb}
 use Rattle.model.specs.declared.Parameters.{Parameters}
-use Rattle.model.specs.declared.LoadReply.{LoadReply}
-use Rattle.model.specs.declared.LoadReply.TheVariants.{Accepted, Refused}
+use Rattle.model.specs.Load.{LoadReply}
+use Rattle.model.specs.Load.{Accepted, Refused}
 use Rattle.model.specs.Words.{Cell, cell_words}
 use Rattle.model.specs.Load.{Checked, fine, fault, lines, line_of, lines_reply, words_of, lines_words, text_reply, image_of}
 use Rattle.text.specs.Parts.{part}

@@ -1,8 +1,8 @@
 -- What a pass over a text's lines asks of the image, and what it leaves there.
 use Rattle.std.specs.Prelude.{ℕ, ◌*◌, ◌≡◌, Bool, true, false, List, replicate}
 use Rattle.model.specs.declared.Parameters.{Parameters}
-use Rattle.model.specs.declared.LoadReply.{LoadReply}
-use Rattle.model.specs.declared.LoadReply.TheVariants.{Accepted, Refused}
+use Rattle.model.specs.Load.{LoadReply}
+use Rattle.model.specs.Load.{Accepted, Refused}
 use Rattle.model.specs.Load.{image_of}
 
 -- A pass that writes begins with empty cells.

@@ -7,7 +7,7 @@ pub mod names;
 
 ghost use Rattle.std.specs.Prelude.{◌≡◌, cond, ◌∷◌, [], ◌+◌, ◌*◌, ◌≤◌, leb, length, drop, replicate};
 ghost use Rattle.std.proofs.lemmas.List.Edits.{sets};
-ghost use Rattle.model.specs.declared.LoadReply.TheVariants.{Refused};
+ghost use Rattle.model.specs.Load.{Refused};
 ghost use Rattle.model.specs.Parameters.{limit, Fit};
 ghost use Rattle.model.specs.Load.{lines, text_reply, load_reply, image_after, load_numbers, numbers_of_load};
 ghost use Rattle.image.specs.Forms.{form_table};

@@ -16,7 +16,7 @@ use Rattle.model.specs.Calls.{Held, as_started, held_after, environment_for, fre
 use Rattle.model.specs.Grants.{Call, Account, accept, hand_back}
 use Rattle.model.specs.Parameters.{refusal_of, limit}
 use Rattle.model.specs.Step.{Environment, Memory, State, Tak}
-use Rattle.model.specs.declared.Outcome.TheVariants.{Refused, Stopped}
+use Rattle.model.specs.Grants.{Refused, Stopped}
 use Rattle.model.specs.declared.Record.{Record}
 use Rattle.engine.specs.Runs.{Runnable, stop_at, RunIs}
 use Rattle.engine.specs.declared.Ran.{Ran}

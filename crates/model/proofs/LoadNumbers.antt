@@ -10,7 +10,7 @@ use lib.Dec.{eqb, leb}
 use lib.ListN.{length}
 use borrow.Author.Tests.{le-leb, lt-leb, ne_eqb}
 use Rattle.model.specs.declared.Parameters.{Parameters}
-use Rattle.model.specs.declared.LoadReply.TheVariants.{Accepted, Refused}
+use Rattle.model.specs.Load.{Accepted, Refused}
 use Rattle.model.specs.Parameters.{Check, refusal_of, parameter_checks}
 use Rattle.model.specs.Words.{Argument, argument_word, Cell}
 use Rattle.model.specs.Instructions.{row_of}

@@ -8,11 +8,11 @@ use lib.ListN.{length, take, replicate}
 use Rattle.model.specs.declared.Parameters.{Parameters}
 use Rattle.model.specs.declared.Ending.{Ending}
 use Rattle.model.specs.declared.Ending.TheVariants.{Failed, Ended, Paused, OutputFull}
-use Rattle.model.specs.declared.Outcome.{Outcome}
-use Rattle.model.specs.declared.Outcome.TheVariants.{Refused, Stopped}
-use Rattle.model.specs.declared.LoadReply.{LoadReply}
-use Rattle.model.specs.declared.LoadReply.TheVariants.{Accepted}
-use Rattle.model.specs.declared.LoadReply.TheVariants as load
+use Rattle.model.specs.Grants.{Outcome}
+use Rattle.model.specs.Grants.{Refused, Stopped}
+use Rattle.model.specs.Load.{LoadReply}
+use Rattle.model.specs.Load.{Accepted}
+use Rattle.model.specs.Load as load
 use Rattle.model.specs.Parameters.{refusal_of, parameter_checks}
 use Rattle.model.specs.Numbers.{bytes, digits_from, digits_of}
 use Rattle.model.specs.Arithmetic.{checked, divide, remainder, negation, logic, bits_of, signed_of, bitwise, shift_left, shift_right, shift_right_signed}

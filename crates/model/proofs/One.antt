@@ -11,7 +11,7 @@ use lib.Seq.{take-append_seam}
 use borrow.Author.Tests.{ltb-true}
 use Rattle.model.specs.declared.Ending.{Ending}
 use Rattle.model.specs.declared.Ending.TheVariants.{OutputFull}
-use Rattle.model.specs.declared.Outcome.TheVariants.{Stopped}
+use Rattle.model.specs.Grants.{Stopped}
 use Rattle.model.specs.Machine.{Machine, stops, goes, after, gathered, outputs, costs, look_at, Reaches, Largest, Priced}
 use Rattle.model.specs.Grants.{Call, Result, RunState, Stop, beginning, advance, look_from, run, hand_back, accept, look_after, Runs, account_at}
 use Rattle.model.proofs.Laws.{going, look-stops, reaches-suc, largest}

@@ -6,8 +6,8 @@ use lib.IntN.{ℤ}
 use lib.ListN.{length}
 use borrow.Author.Tests.{lt-ltb}
 use Rattle.model.specs.declared.Parameters.{Parameters}
-use Rattle.model.specs.declared.LoadReply.TheVariants as load
-use Rattle.model.specs.declared.Outcome.TheVariants.{Refused}
+use Rattle.model.specs.Load as load
+use Rattle.model.specs.Grants.{Refused}
 use Rattle.model.specs.Parameters.{refusal_of}
 use Rattle.model.specs.Numbers.{longest_decimal}
 use Rattle.model.specs.Load.{load_checks, load_reply, image_after}

@@ -5,11 +5,8 @@ use Rattle.model.specs.declared.Parameters.{Parameters}
 use Rattle.model.specs.declared.Record.{Record}
 use Rattle.model.specs.declared.Ending.{Ending}
 use Rattle.model.specs.declared.Ending.TheVariants.{Failed, Ended, Paused, OutputFull}
-use Rattle.model.specs.declared.Outcome.{Outcome}
-use Rattle.model.specs.declared.Outcome.TheVariants.{Refused, Stopped}
-use Rattle.model.specs.declared.StartReply.{StartReply}
-use Rattle.model.specs.declared.GrantReply.{GrantReply}
-use Rattle.model.specs.declared.DecimalReply.{DecimalReply}
+use Rattle.model.specs.Grants.{Outcome}
+use Rattle.model.specs.Grants.{Refused, Stopped}
 use Rattle.model.specs.Parameters.{Check, ◌unless◌, refusal_of, all_pass, parameter_checks, limit, max_input, max_grant, max_granted, in_range}
 use Rattle.model.specs.Numbers.{bytes, decimal, longest_decimal}
 use Rattle.model.specs.Words.{is_empty}
@@ -30,22 +27,28 @@ as_held r registers cells = record { rec = r; memory = as_memory registers cells
 abbrev pub as_call : (cycles : ℕ) (slice : List ℤ) → Call
 as_call cycles slice = record { cycles = cycles; slice = slice }
 
--- What start hands back, and the memory after it.
+-- What start replies: the refusal's number, 0 if there is none, and the record.
+pub record StartReply : Type 0 where
+  pub refusal : ℕ
+  pub rec : Record
+
+-- That, and the memory after it.
 pub record Started : Type 0 where
   pub reply : StartReply
   pub memory : Memory
 
-abbrev pub as_started : StartReply → (registers cells : List ℤ) → Started
-as_started r registers cells = record { reply = r; memory = as_memory registers cells }
+-- What a grant replies: what came of it, the record, "the number of values written and the cycles spent in this call".
+pub record GrantReply : Type 0 where
+  pub outcome : Outcome
+  pub rec : Record
+  pub values : ℕ
+  pub cycles : ℕ
 
--- What a grant hands back, and the memory and the output slice after it.
+-- That, and the memory and the output slice after it.
 pub record Granted : Type 0 where
   pub reply : GrantReply
   pub memory : Memory
   pub slice : List ℤ
-
-abbrev pub as_granted : GrantReply → (registers cells slice : List ℤ) → Granted
-as_granted r registers cells slice = record { reply = r; memory = as_memory registers cells; slice = slice }
 
 -- "the record and memory that an accepted start with the list's image left"
 abbrev pub held_after_start : Started → Held
@@ -216,7 +219,12 @@ stop_word e a room =
     (cond (ltb room (length (step_values e s))) (bytes "OUTPUT FULL")
     [])))
 
--- What the decimal writer hands back, and the bytes after it.
+-- What the decimal writer replies: the refusal's number, 0 if there is none, and the count of bytes written.
+pub record DecimalReply : Type 0 where
+  pub refusal : ℕ
+  pub count : ℕ
+
+-- That, and the bytes after it.
 pub record Spelled : Type 0 where
   pub reply : DecimalReply
   pub bytes : List ℕ

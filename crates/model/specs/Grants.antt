@@ -3,14 +3,17 @@ use Rattle.std.specs.Prelude.{ℕ, zero, suc, ◌+◌, ◌-◌, ◌≤◌, ◌<�
 use Rattle.std.proofs.Math.Option.{Option, some}
 use Rattle.model.specs.declared.Ending.{Ending}
 use Rattle.model.specs.declared.Ending.TheVariants.{Paused}
-use Rattle.model.specs.declared.Outcome.{Outcome}
-use Rattle.model.specs.declared.Outcome.TheVariants.{Refused, Stopped}
 use Rattle.model.specs.Machine.{Machine, Look, stops, goes, after, outputs, costs, look_at}
 
 -- Document 01's grant brings cycles and an output slice, whose length is its room.
 pub record Call : Type 0 where
   pub cycles : ℕ
   pub slice : List ℤ
+
+-- What comes of a grant: the refusal's number, or the ending of an accepted one.
+pub data Outcome : Type 0 where
+  Refused : (refusal : ℕ) → Outcome
+  Stopped : Ending → Outcome
 
 -- What a grant replies: the refusal or ending, "the number of values written and the cycles spent in this call".
 pub record Reply : Type 0 where

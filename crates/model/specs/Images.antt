@@ -1,7 +1,7 @@
 -- Document 01, refusal 10: "an image that no text yields under the loading rules, refusal 7 disregarded".
 use Rattle.std.specs.Prelude.{ℕ, zero, suc, ◌<◌, ◌≡◌, Bool, true, false, ◌&&◌, cond, List, [], ◌∷◌, eqb, get_or, length, take, drop}
 use Rattle.model.specs.declared.Parameters.{Parameters}
-use Rattle.model.specs.declared.LoadReply.TheVariants.{Accepted}
+use Rattle.model.specs.Load.{Accepted}
 use Rattle.model.specs.Parameters.{between}
 use Rattle.model.specs.Words.{Argument, register, special, direct, literal, Cell, cell_of, kind_of, register_kind, direct_kind, number_kind, content_of, iar_number, shr_number, number_of, is_empty}
 use Rattle.model.specs.Instructions.{instruction_count, row_of}

@@ -9,6 +9,7 @@ pub mod Machine
 pub mod Grants
 pub mod Step
 pub mod Calls
+pub mod Replies
 pub mod Demand
 pub mod Settings
 pub mod Lines

@@ -2,8 +2,6 @@
 use Rattle.std.specs.Prelude.{ℕ, zero, suc, ◌*◌, ◌-◌, ◌/◌, ◌%◌, Bool, true, false, ◌&&◌, cond, List, [], ◌∷◌, ◌++◌, map, eqb, ltb, leb, length, replicate}
 use Rattle.std.proofs.Math.Option.{Option, none, some}
 use Rattle.model.specs.declared.Parameters.{Parameters}
-use Rattle.model.specs.declared.LoadReply.{LoadReply}
-use Rattle.model.specs.declared.LoadReply.TheVariants.{Accepted, Refused}
 use Rattle.model.specs.Parameters.{Check, ◌unless◌, refusal_of, parameter_checks, limit, max_text, in_range}
 use Rattle.model.specs.Words.{Argument, register, special, direct, literal, argument_word, iar_number, ircr_number, shr_number, Cell, cell_with, cell_words}
 use Rattle.model.specs.Numbers.{bytes, among, upper, mapped, natural, number}
@@ -142,6 +140,11 @@ line_cell p (w ∷ ws) =
 -- What a line's bytes say.
 abbrev pub line_of : Parameters → List ℕ → Checked Cell
 line_of p l = line_cell p (words l)
+
+-- What load replies: the count of lines, or the refusal's number and the faulty line's index.
+pub data LoadReply : Type 0 where
+  Accepted : (lines : ℕ) → LoadReply
+  Refused : (refusal line : ℕ) → LoadReply
 
 -- "the first faulty line, with its index", counted from i; or the count of lines
 unfoldable pub lines_reply : Parameters → ℕ → List (List ℕ) → LoadReply

@@ -4,9 +4,9 @@ use Rattle.std.specs.Prelude.{ℕ, zero, suc, ◌*◌, Bool, true, false, List, 
 use Rattle.model.specs.declared.Record.{Record}
 use Rattle.model.specs.declared.Ending.{Ending}
 use Rattle.model.specs.declared.Ending.TheVariants.{Failed, Ended, Paused, OutputFull}
-use Rattle.model.specs.declared.Outcome.{Outcome}
-use Rattle.model.specs.declared.Outcome.TheVariants.{Refused, Stopped}
-use Rattle.model.specs.declared.LoadReply.TheVariants as load
+use Rattle.model.specs.Grants.{Outcome}
+use Rattle.model.specs.Grants.{Refused, Stopped}
+use Rattle.model.specs.Load as load
 use Rattle.model.specs.Load.{load_reply, image_of}
 use Rattle.model.specs.Grants.{Call}
 use Rattle.model.specs.Step.{Environment, environment_of}

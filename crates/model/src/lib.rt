@@ -3,11 +3,12 @@
 
 ghost use Rattle.std.specs.Prelude.{◌≡◌};
 ghost use Rattle.model.specs.Calls.{fresh_record};
+ghost use Rattle.model.specs.Replies.{number_of};
 
 pub mod words;
 
 // K, N, S, B and T: bits of a cell, registers, data cells, directly addressed cells, instruction cells.
-#[derive(Clone, Copy)]
+#[derive(Clone, Copy, Debug, Default, PartialEq, Eq)]
 pub struct Parameters {
     pub k: u32,
     pub n: u32,
@@ -17,7 +18,7 @@ pub struct Parameters {
 }
 
 // The record: SHR is B-1 where the stack is empty, so that it is signed; `place` is the input place.
-#[derive(Clone, Copy)]
+#[derive(Clone, Copy, Debug, Default, PartialEq, Eq)]
 pub struct Record {
     pub parameters: Parameters,
     pub iar: u32,
@@ -29,7 +30,7 @@ pub struct Record {
 }
 
 // How an accepted grant ends: "failed", "ended", "paused", "output full".
-#[derive(Clone, Copy)]
+#[derive(Clone, Copy, Debug, PartialEq, Eq)]
 pub enum Ending {
     Failed,
     Ended,
@@ -37,41 +38,78 @@ pub enum Ending {
     OutputFull,
 }
 
-// A refusal's number, or the ending of an accepted grant.
-#[derive(Clone, Copy)]
-pub enum Outcome {
-    Refused(u32),
-    Stopped(Ending),
+// Why a call is refused: what does not fit. Instruction to ArgumentRange are faults of a line, and the last is the decimal writer's.
+#[derive(Clone, Copy, Debug, PartialEq, Eq)]
+pub enum Refusal {
+    ParameterK,
+    ParameterN,
+    ParameterS,
+    ParameterB,
+    ParameterT,
+    ImageLength,
+    TextLength,
+    LineCount,
+    MemoryLength,
+    Image,
+    Instruction,
+    ArgumentCount,
+    ArgumentForm,
+    ArgumentRange,
+    Record,
+    InputLength,
+    Cycles,
+    DecimalLength,
 }
 
-// Load: the count of lines; or the refusal's number and the faulty line's index.
-#[derive(Clone, Copy)]
-pub enum LoadReply {
-    Accepted(usize),
-    Refused(u32, usize),
+impl From<Refusal> for u32 {
+    ghost from_gives = { λ r n. n ≡ number_of r };
+
+    fn from(refusal: Refusal) -> u32 {
+        match refusal {
+            Refusal::ParameterK => 1,
+            Refusal::ParameterN => 2,
+            Refusal::ParameterS => 3,
+            Refusal::ParameterB => 4,
+            Refusal::ParameterT => 5,
+            Refusal::ImageLength => 6,
+            Refusal::TextLength => 7,
+            Refusal::LineCount => 8,
+            Refusal::MemoryLength => 9,
+            Refusal::Image => 10,
+            Refusal::Instruction => 11,
+            Refusal::ArgumentCount => 12,
+            Refusal::ArgumentForm => 13,
+            Refusal::ArgumentRange => 14,
+            Refusal::Record => 15,
+            Refusal::InputLength => 16,
+            Refusal::Cycles => 17,
+            Refusal::DecimalLength => 18,
+        }
+    }
 }
 
-// Start: the refusal's number, 0 if there is none, and the record.
-#[derive(Clone, Copy)]
-pub struct StartReply {
-    pub refusal: u32,
-    pub rec: Record,
+// Why a text is not loaded, and the faulty line's index, 0 where it is no line's fault.
+#[derive(Clone, Copy, Debug, PartialEq, Eq)]
+pub struct LoadError {
+    pub refusal: Refusal,
+    pub line: usize,
 }
 
-// Grant: what came of it, the record, the number of values written and the cycles spent in this call.
-#[derive(Clone, Copy)]
-pub struct GrantReply {
-    pub outcome: Outcome,
+impl From<Refusal> for LoadError {
+    ghost from_gives = { λ r e. e ≡ record { refusal = r; line = 0 } };
+
+    fn from(refusal: Refusal) -> LoadError {
+        LoadError { refusal, line: 0 }
+    }
+}
+
+// What comes of an accepted grant: how it ended, the record, the number of values written and the cycles spent in this call.
+#[derive(Clone, Copy, Debug, PartialEq, Eq)]
+pub struct AcceptedGrant {
+    pub ending: Ending,
     pub rec: Record,
     pub values: usize,
     pub cycles: u64,
-}
-
-// The decimal writer: the refusal's number, 0 if there is none, and the count of bytes written.
-#[derive(Clone, Copy)]
-pub struct DecimalReply {
-    pub refusal: u32,
-    pub count: usize,
 }
 
 impl Record {
@@ -99,13 +137,9 @@ impl Record {
         ensures { result ≡ fresh_record parameters }
     {
         Record {
-            parameters: parameters,
-            iar: 0,
-            ircr: 0,
+            parameters,
             shr: (parameters.b as i64) - 1,
-            place: 0,
-            granted: 0,
-            spent: 0,
+            ..Record::default()
         }
     }
 }

@@ -22,7 +22,7 @@ use Rattle.model.specs.Parameters.{Fit}
 use Rattle.model.specs.Step.{Environment, State, Tak, written_by, current_cell, current_operation, state_status, step_cost, step_values}
 use Rattle.model.specs.declared.Ending.{Ending}
 use Rattle.model.specs.declared.Ending.TheVariants.{Failed, Ended, Paused, OutputFull}
-use Rattle.model.specs.declared.Outcome.TheVariants.{Stopped}
+use Rattle.model.specs.Grants.{Stopped}
 use Rattle.model.specs.Program.{slice_values, is_full}
 use Rattle.session.specs.Sessions.{Progress}
 

@@ -21,12 +21,12 @@ use Rattle.model.specs.Program.{is_full, last_lines, reply_lines, slice_values, 
 use Rattle.model.specs.Step.{Environment, Memory, Tak, environment_of}
 use Rattle.model.specs.declared.Ending.{Ending}
 use Rattle.model.specs.declared.Ending.TheVariants.{Failed, Ended, Paused, OutputFull}
-use Rattle.model.specs.declared.GrantReply.{GrantReply}
-use Rattle.model.specs.declared.LoadReply.{LoadReply}
-use Rattle.model.specs.declared.LoadReply.TheVariants as load
-use Rattle.model.specs.declared.Outcome.TheVariants as outcome
+use Rattle.model.specs.Calls.{GrantReply}
+use Rattle.model.specs.Load.{LoadReply}
+use Rattle.model.specs.Load as load
+use Rattle.model.specs.Grants as outcome
 use Rattle.model.specs.declared.Parameters.{Parameters}
-use Rattle.model.specs.declared.StartReply.{StartReply}
+use Rattle.model.specs.Calls.{StartReply}
 use Rattle.session.proofs.Pieces.{put_then, put_front}
 use Rattle.session.specs.Puts.{Put}
 use Rattle.session.proofs.Advance.{full-progress}

@@ -17,7 +17,7 @@ use borrow.Rule.Slice.PartMut.{put_mid}
 use Rattle.model.proofs.Decimals.{digits-at-most, decimal-length}
 use Rattle.model.specs.Calls.{Spelled, spelled, ending_word}
 use Rattle.model.specs.Numbers.{decimal, longest_decimal}
-use Rattle.model.specs.declared.DecimalReply.{DecimalReply}
+use Rattle.model.specs.Calls.{DecimalReply}
 use Rattle.model.specs.declared.Ending.{Ending}
 use Rattle.model.specs.declared.Ending.TheVariants.{Failed, Ended, Paused, OutputFull}
 use Rattle.writer.specs.Decimal.{written}

@@ -21,12 +21,12 @@ use Rattle.model.specs.Parameters.{◌unless◌, refusal_of, parameter_checks, F
 use Rattle.model.specs.Program.{is_full, reply_lines, slice_values, slice_call, grant_lines, first_grant, start_lines, printed}
 use Rattle.model.specs.Settings.{settings}
 use Rattle.model.specs.Step.{Environment, Memory, Tak, environment_of}
-use Rattle.model.specs.declared.GrantReply.{GrantReply}
-use Rattle.model.specs.declared.LoadReply.{LoadReply}
-use Rattle.model.specs.declared.LoadReply.TheVariants as load
+use Rattle.model.specs.Calls.{GrantReply}
+use Rattle.model.specs.Load.{LoadReply}
+use Rattle.model.specs.Load as load
 use Rattle.model.specs.declared.Parameters.{Parameters}
 use Rattle.model.specs.declared.Record.{Record}
-use Rattle.model.specs.declared.StartReply.{StartReply}
+use Rattle.model.specs.Calls.{StartReply}
 use Rattle.session.specs.Runs.{Grants, last, next, Run, refused, granted as goes}
 use Rattle.session.specs.Sessions.{start_line, Shows, Sizes, OpenBy, OpenIs, ReportIs}
 use Rattle.session.specs.declared.Report.{Report}

@@ -18,8 +18,8 @@ use Rattle.model.specs.Parameters.{Check, ◌unless◌, refusal_of, parameter_ch
 use Rattle.model.specs.Program.{is_full, reply_lines, slice_call, grant_lines, first_grant, start_lines, printed}
 use Rattle.model.specs.Settings.{settings}
 use Rattle.model.specs.Step.{Environment, Memory, environment_of}
-use Rattle.model.specs.declared.LoadReply.{LoadReply}
-use Rattle.model.specs.declared.LoadReply.TheVariants as load
+use Rattle.model.specs.Load.{LoadReply}
+use Rattle.model.specs.Load as load
 use Rattle.model.specs.declared.Parameters.{Parameters}
 use Rattle.model.specs.declared.Record.{Record}
 use Rattle.session.proofs.Printed.{lines-last, start-fresh, start-stops, start-goes, printed-refused, printed-loaded}

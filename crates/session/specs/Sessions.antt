@@ -6,8 +6,8 @@ use Rattle.model.specs.Step.{Environment, environment_of, Memory}
 use Rattle.model.specs.Lines.{refusal_line}
 use Rattle.model.specs.Load.{load_reply, image_after}
 use Rattle.model.specs.Program.{is_full, reply_lines, slice_values, first_grant}
-use Rattle.model.specs.declared.LoadReply.{LoadReply}
-use Rattle.model.specs.declared.LoadReply.TheVariants as load
+use Rattle.model.specs.Load.{LoadReply}
+use Rattle.model.specs.Load as load
 use Rattle.model.specs.declared.Parameters.{Parameters}
 use Rattle.model.specs.declared.Record.{Record}
 use Rattle.model.specs.Parameters.{max_registers, max_cells, max_instructions}

@@ -9,7 +9,7 @@ use Rattle.model.specs.Calls.{Started, Granted, granted, outcome_number}
 use Rattle.model.specs.Grants.{Call}
 use Rattle.model.specs.Load.{load_reply, image_after, LoadNumbers, load_numbers, numbers_of_load}
 use Rattle.model.specs.Step.{Environment, with_parameters}
-use Rattle.model.specs.declared.LoadReply.{LoadReply}
+use Rattle.model.specs.Load.{LoadReply}
 use Rattle.model.specs.declared.Parameters.{Parameters}
 use Rattle.model.specs.declared.Record.{Record}
 use Rattle.machine.specs.CallContracts.{StartIs, GrantIs}

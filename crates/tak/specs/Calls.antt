@@ -2,8 +2,8 @@
 use Rattle.std.specs.Prelude.{ℕ, cond, List, eqb, ℤ, length}
 use Rattle.model.specs.declared.Ending.{Ending}
 use Rattle.model.specs.declared.Ending.TheVariants.{Failed, Ended, Paused, OutputFull}
-use Rattle.model.specs.declared.Outcome.{Outcome}
-use Rattle.model.specs.declared.Outcome.TheVariants.{Refused, Stopped}
+use Rattle.model.specs.Grants.{Outcome}
+use Rattle.model.specs.Grants.{Refused, Stopped}
 use Rattle.model.specs.declared.Parameters.{Parameters}
 use Rattle.model.specs.Calls.{Held, Started, started, Granted, granted, outcome_number, Spelled, spelled}
 use Rattle.model.specs.Grants.{Call}

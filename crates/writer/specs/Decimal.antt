@@ -1,6 +1,6 @@
 -- What the decimal writer answers.
 use Rattle.std.specs.Prelude.{ℕ, List}
-use Rattle.model.specs.declared.DecimalReply.{DecimalReply}
+use Rattle.model.specs.Calls.{DecimalReply}
 use Rattle.model.specs.Calls.{Spelled}
 
 -- The reply together with the lent bytes.
