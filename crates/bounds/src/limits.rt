@@ -1,9 +1,10 @@
 // The range limits of document 01, and the checks of the parameters.
 ghost use Rattle.std.specs.Prelude.{◌≡◌, ◌&&◌, ◌-◌, ◌≤◌, leb};
 ghost use Rattle.model.specs.Parameters.{limit, between, refusal_of, parameter_checks};
+ghost use Rattle.model.specs.Replies.{refusal_number};
 ghost use Rattle.bounds.specs.Bounds.{IsLimit};
 
-use model::{Parameters, Record};
+use model::{Parameters, Record, Refusal};
 
 // M for K = 8..30: "M comes from a table with one entry per K."
 const LIMITS: [u32; 23] = [
@@ -24,10 +25,7 @@ pub fn limit_of(k: u32) -> u32
 fn within(low: u32, high: u32, x: u32) -> bool
     ensures { result ≡ between low high x }
 {
-    if low <= x {
-        return x <= high;
-    }
-    false
+    low <= x && x <= high
 }
 
 // A count of cells: 1..high, and at most M - 1.
@@ -35,31 +33,28 @@ fn countable(high: u32, m: u32, x: u32) -> bool
     requires { 1 ≤ m }
     ensures { result ≡ (between 1 high x && leb x (m - 1)) }
 {
-    if within(1, high, x) {
-        return x <= m - 1;
-    }
-    false
+    within(1, high, x) && x <= m - 1
 }
 
-// Refusals 1 to 5, in that order; 0 if there is none.
-pub fn parameter_refusal(p: Parameters) -> u32
-    ensures { result ≡ refusal_of (parameter_checks p) }
+// Whether the parameters fit: refusals 1 to 5, in that order.
+pub fn check_parameters(p: Parameters) -> Result<(), Refusal>
+    ensures { refusal_number result ≡ refusal_of (parameter_checks p) }
 {
     if !within(Record::MIN_BITS, Record::MAX_BITS, p.k) {
-        return 1;
+        return Err(Refusal::ParameterK);
     }
     if !within(1, Record::MAX_REGISTERS, p.n) {
-        return 2;
+        return Err(Refusal::ParameterN);
     }
     let m = limit_of(p.k);
     if !countable(Record::MAX_CELLS, m, p.s) {
-        return 3;
+        return Err(Refusal::ParameterS);
     }
     if p.s < p.b {
-        return 4;
+        return Err(Refusal::ParameterB);
     }
     if !countable(Record::MAX_INSTRUCTIONS, m, p.t) {
-        return 5;
+        return Err(Refusal::ParameterT);
     }
-    0
+    Ok(())
 }

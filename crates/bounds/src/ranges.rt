@@ -3,16 +3,13 @@ ghost use Rattle.std.specs.Prelude.{◌≡◌};
 ghost use Rattle.model.specs.Parameters.{in_range};
 ghost use Rattle.bounds.specs.Bounds.{IsLimit};
 
-// z is in -M..M-1, tested in 32 bits.
+// z is in -M..M-1. Not one function for both widths: a loop over 32-bit values tests twice as many at once in 32 bits, and sums and products need 64.
 pub fn in_range(m: u32, z: i32) -> bool
     requires { IsLimit m }
     ensures { result ≡ in_range m z }
 {
     let top = m as i32;
-    if -top <= z {
-        return z < top;
-    }
-    false
+    -top <= z && z < top
 }
 
 // The same of 64 bits.
@@ -20,8 +17,5 @@ pub fn in_range_wide(m: u32, z: i64) -> bool
     ensures { result ≡ in_range m z }
 {
     let limit = m as i64;
-    if -limit <= z {
-        return z < limit;
-    }
-    false
+    -limit <= z && z < limit
 }

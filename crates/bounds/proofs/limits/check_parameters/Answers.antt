@@ -4,8 +4,8 @@ use mathlib.Core.Bool.{true, ◌&&◌}
 use lib.Dec.{leb}
 use borrow.Author.Tests.{not-false, not-true, le-leb, lt-leb}
 use Rattle.model.specs.Parameters.{between, limit, parameter_checks, max_registers, max_cells}
-use Rattle.bounds.proofs.limits.parameter_refusal.Goals as goal
-use Rattle.bounds.proofs.limits.parameter_refusal.Goals.{Else-not-countable, Else-not-within, Else-not-within-2, Else-p}
+use Rattle.bounds.proofs.limits.check_parameters.Goals as goal
+use Rattle.bounds.proofs.limits.check_parameters.Goals.{Else-not-countable, Else-not-within, Else-not-within-2, Else-p}
 
 -- The tests that passed on the way: K, N, S and B.
 bits : (c : Else-not-within) → between 8 30 c.args.p.k ≡ true
