@@ -1,25 +1,29 @@
 -- A number byte by byte, as the loop that reads it meets it, and its range. Assumes nothing.
 use Prim.Native.Nat.{ℕ, zero, suc, ◌+◌, ◌*◌, ◌-◌, ◌^◌, ◌≤◌, ◌<◌, min}
 use mathlib.Core.Path.{◌≡◌, refl, sym, ap, ◌∙◌}
-use mathlib.Core.Bool.{Bool, true, false, cond}
+use mathlib.Core.Bool.{Bool, true, false, not, cond}
 use mathlib.Core.List.{List, [], ◌∷◌}
 use mathlib.Core.Option.{Option, none, some}
+use Rattle.std.proofs.Common.{Some, None, Result, Ok, Err}
+use Rattle.std.specs.List.{list_all, position_or_len}
+use Rattle.std.specs.Option.{unwrap_or}
+use Rattle.std.proofs.lemmas.List.Sums.{prefix_len-le-length}
 use native.Mathlib.Decide.{dec_lt}
-use native.Mathlib.Numerals.{add-one}
+use native.Mathlib.Numerals.{add-one, one-add}
 use native.Mathlib.Omega.{arith}
 use lib.IntN.{ℤ, pos, negsuc, neg_ℤ}
 use lib.ListN.{length, get_or, drop, drop_of_length-le}
 use lib.Seq.{drop-cons}
 use lib.Signed.{mag}
 use borrow.Author.Tests.{lt-ltb, le-ltb, le-leb, lt-leb, ne_eqb, eqb-true, eqb-false}
-use lib.Dec.{eqb}
+use lib.Dec.{eqb, ltb}
 use Rattle.model.specs.Parameters.{in_range}
 use Rattle.model.specs.Arithmetic.{value, code}
 use Rattle.model.specs.Numbers.{is_digit, digits_from, natural, mapped, number}
 use Rattle.model.specs.Step.{input_number}
 use Rattle.model.proofs.Ranges.{range-mag, mag-range}
-use Rattle.numbers.specs.declared.reading.Reading.{Reading}
-use Rattle.numbers.specs.declared.reading.Reading.TheVariants.{Number, Outside}
+use Rattle.numbers.specs.declared.reading.NumberError.{NumberError}
+use Rattle.numbers.specs.declared.reading.NumberError.TheVariants.{Outside}
 use Rattle.numbers.specs.Reading.{capped, sign_length, positive_of, negative_of, reading_of, answer_of}
 
 -- DIGITS
@@ -39,9 +43,44 @@ module _ (w : List ℕ) (i : ℕ) (inside : i < length w) where
   unfolding digits_from
   no_digit n h = rw (drop-cons w i 0) (simp (digits_from, h))
 
--- A zero in front.
-pub zero-digit : (w : List ℕ) (i : ℕ) → i < length w → get_or w i 0 ≡ 48 → digits_from 0 (drop i w) ≡ digits_from 0 (drop (i + 1) w)
-zero-digit w i inside z = digit w i inside 0 (rw z) ∙ rw z
+-- A word with a byte.
+pub natural-some : (w : List ℕ) → eqb (length w) 0 ≡ false → natural w ≡ digits_from 0 w
+natural-some [] h = cc
+natural-some (b ∷ s) h = refl
+
+-- The place that `position` finds, or the length.
+pub place-found : (test : ℕ → Bool) (w : List ℕ) →
+    unwrap_or (cond (ltb (position_or_len test w) (length w)) (Some (position_or_len test w)) None) (length w) ≡ position_or_len test w
+place-found test w = go (position_or_len test w) (prefix_len-le-length (λ b. not (test b)) w) (dec_lt (position_or_len test w) (length w))
+  where
+    go : (i : ℕ) → i ≤ length w → Dec (i < length w) → unwrap_or (cond (ltb i (length w)) (Some i) None) (length w) ≡ i
+    go i h (yes l) = simp (lt-ltb i (length w) l)
+    go i h (no g) = simp (le-ltb i (length w) (omega arith)) (omega arith)
+
+abbrev no-zero : ℕ → Bool
+no-zero b = not (eqb b 48)
+
+-- Zeros in front.
+pub zeros-passed : (w : List ℕ) → digits_from 0 w ≡ digits_from 0 (drop (position_or_len (λ b. not (eqb b 48)) w) w)
+unfolding digits_from
+zeros-passed [] = refl
+zeros-passed (b ∷ s) = go (eqb b 48) refl (zeros-passed s)
+  where
+    go : (x : Bool) → eqb b 48 ≡ x → digits_from 0 s ≡ digits_from 0 (drop (position_or_len no-zero s) s) →
+        digits_from 0 (b ∷ s) ≡ digits_from 0 (drop (position_or_len no-zero (b ∷ s)) (b ∷ s))
+    go true e h = let k : b ≡ 48 = eqb-true b 48 e in rw k (h ∙ ap (λ (i : ℕ). digits_from 0 (drop i (48 ∷ s))) (sym (one-add _)))
+    go false e h = simp e
+
+-- Behind a value of 2^30 or more only the form counts.
+pub rest-digits : (w : List ℕ) (e : ℕ) → 2 ^ 30 ≤ e → cond (list_all is_digit w) (Some (2 ^ 30)) None ≡ capped (digits_from e w)
+unfolding digits_from
+rest-digits [] e h = let k : 2 ^ 30 ≡ min (2 ^ 30) e = omega arith in ap Some k
+rest-digits (b ∷ s) e h = go (is_digit b) refl (rest-digits s (e * 10 + (b - 48)) (omega arith))
+  where
+    go : (x : Bool) → is_digit b ≡ x → cond (list_all is_digit s) (Some (2 ^ 30)) None ≡ capped (digits_from (e * 10 + (b - 48)) s) →
+        cond (list_all is_digit (b ∷ s)) (Some (2 ^ 30)) None ≡ capped (digits_from e (b ∷ s))
+    go true d k = simp (digits_from, d) k
+    go false d k = simp (digits_from, d)
 
 -- THE FIRST BYTE
 pub number-none : (w : List ℕ) → length w ≡ 0 → number w ≡ none
@@ -71,32 +110,32 @@ answer-is : (m : ℕ) (o : Option ℤ) → answer_of (reading_of m o) ≡ input_
 answer-is m none = refl
 answer-is m (some z) = go (in_range m z)
   where
-    go : (b : Bool) → answer_of (cond b (Number z) Outside) ≡ cond b (value z) (code 2)
+    go : (b : Bool) → answer_of (cond b (Ok z) (Err Outside)) ≡ cond b (value z) (code 2)
     go true = refl
     go false = refl
 
 -- What is read, and IN's answer to it.
-pub with_answer : (m : ℕ) (o : Option ℤ) {r : Reading} → r ≡ reading_of m o → (r ≡ reading_of m o) × (answer_of r ≡ input_number m o)
+pub with_answer : (m : ℕ) (o : Option ℤ) {r : Result ℤ NumberError} → r ≡ reading_of m o → (r ≡ reading_of m o) × (answer_of r ≡ input_number m o)
 with_answer m o e = (e, ap answer_of e ∙ answer-is m o)
 
 -- THE RANGE
 module _ (m : ℕ) (one : 1 ≤ m) where
-  reading-inside : (z : ℤ) → mag z < m → reading_of m (some z) ≡ Number z
+  reading-inside : (z : ℤ) → mag z < m → reading_of m (some z) ≡ Ok z
   reading-inside z h = rw (mag-range m z one h)
 
-  reading_outside : (z : ℤ) → m ≤ mag z → reading_of m (some z) ≡ Outside
+  reading_outside : (z : ℤ) → m ≤ mag z → reading_of m (some z) ≡ (Err Outside)
   reading_outside z h = go (in_range m z) refl
     where
-      go : (b : Bool) → in_range m z ≡ b → cond b (Number z) Outside ≡ Outside
+      go : (b : Bool) → in_range m z ≡ b → cond b (Ok z) (Err Outside) ≡ (Err Outside)
       go true e = absurd (omega (arith, range-mag m z one e))
       go false e = refl
 
   -- A number that is read is in range.
-  pub reading-range : (o : Option ℤ) (z : ℤ) → reading_of m o ≡ Number z → mag z < m
+  pub reading-range : (o : Option ℤ) (z : ℤ) → reading_of m o ≡ Ok z → mag z < m
   reading-range none z h = let e : ◌≡◌ {A = ℕ} 0 1 = cc in absurd (omega arith)
   reading-range (some y) z h = go (in_range m y) refl h
     where
-      go : (b : Bool) → in_range m y ≡ b → cond b (Number y) Outside ≡ Number z → mag z < m
+      go : (b : Bool) → in_range m y ≡ b → cond b (Ok y) (Err Outside) ≡ Ok z → mag z < m
       go true e h = let k : z ≡ y = cc in rw k (range-mag m y one e)
       go false e h = let e : ◌≡◌ {A = ℕ} 0 1 = cc in absurd (omega arith)
 

@@ -1,5 +1,5 @@
 // Decimal numbers in a word.
-ghost use Rattle.std.specs.Prelude.{◌≡◌, true, ℕ, ◌+◌, ◌-◌, ◌*◌, ◌^◌, ◌≤◌, min, length, drop};
+ghost use Rattle.std.specs.Prelude.{◌≡◌, ℕ, ◌+◌, ◌-◌, ◌*◌, ◌^◌, ◌≤◌, true, min, length};
 ghost use Rattle.model.specs.Numbers.{is_digit, digits_from, natural, number};
 ghost use Rattle.model.specs.Step.{input_number};
 ghost use Rattle.numbers.specs.Reading.{capped, sign_length, positive_of, negative_of, reading_of, answer_of};
@@ -9,18 +9,10 @@ use text::bytes::is_digit;
 // Greater values are held as this one, which is outside every range already.
 const CAP: u64 = 1073741824;
 
-// The value of digits, at most CAP, or that they are none.
-#[derive(Clone, Copy)]
-pub enum Digits {
-    Value(u64),
-    Invalid,
-}
-
-// What a word says as a number.
-#[derive(Clone, Copy)]
-pub enum Reading {
+// Why a word is no number of a range.
+#[derive(Clone, Copy, Debug, PartialEq, Eq)]
+pub enum NumberError {
     NotANumber,
-    Number(i32),
     Outside,
 }
 
@@ -34,85 +26,68 @@ fn append_digit(n: u64, b: u8) -> u64
 }
 
 // Behind digits whose value is CAP or more only the form counts.
-fn read_rest(w: &[u8], from: usize) -> Digits
-    ensures { (e : ℕ) → 2 ^ 30 ≤ e → result ≡ capped (digits_from e (drop from w.now)) }
+fn read_rest(w: &[u8]) -> Option<u64>
+    ensures { (e : ℕ) → 2 ^ 30 ≤ e → result ≡ capped (digits_from e w.now) }
 {
-    let mut i = from;
-    while i < w.len() {
-        if !is_digit(w[i]) {
-            return Digits::Invalid;
-        }
-        i += 1;
+    if w.iter().all(|&b| is_digit(b)) {
+        Some(CAP)
+    } else {
+        None
     }
-    Digits::Value(CAP)
 }
 
-// The first byte from a place on that is no zero, or the word's end.
-fn skip_zeros(w: &[u8], from: usize) -> usize
-    requires { from ≤ length w.now }
-    ensures { (result ≤ length w.now) × (digits_from 0 (drop from w.now) ≡ digits_from 0 (drop result w.now)) }
+// The digits behind the zeros in front.
+fn skip_zeros(w: &[u8]) -> &[u8]
+    ensures { digits_from 0 w.now ≡ digits_from 0 result.now }
 {
-    let mut i = from;
-    while i < w.len() && w[i] == b'0' {
-        i += 1;
-    }
-    i
+    let zeros = w.iter().position(|&b| b != b'0').unwrap_or(w.len());
+    &w[zeros..]
 }
 
-// The value of the digits of w from a place on, of which there is at least one.
-pub fn read_digits(w: &[u8], from: usize) -> Digits
-    ensures { result ≡ capped (natural (drop from w.now)) }
+// The value of digits, at most CAP; none where a byte is no digit or there is no byte.
+pub fn read_digits(w: &[u8]) -> Option<u64>
+    ensures { result ≡ capped (natural w.now) }
 {
-    if w.len() <= from {
-        return Digits::Invalid;
+    if w.is_empty() {
+        return None;
     }
+    let digits = skip_zeros(w);
     let mut n: u64 = 0;
-    let mut i = skip_zeros(w, from);
-    while i < w.len() {
-        let b = w[i];
+    for (i, &b) in digits.iter().enumerate() {
         if !is_digit(b) {
-            return Digits::Invalid;
+            return None;
         }
         n = append_digit(n, b);
-        i += 1;
         if n == CAP {
-            return read_rest(w, i);
+            return read_rest(&digits[i + 1..]);
         }
     }
-    Digits::Value(n)
+    Some(n)
 }
 
 // The number of digits behind no sign or a plus.
-fn positive(d: Digits, m: u32) -> Reading
+fn positive(digits: Option<u64>, m: u32) -> Result<i32, NumberError>
     requires { m ≤ 2 ^ 29 }
-    ensures { result ≡ positive_of m d }
+    ensures { result ≡ positive_of m digits }
 {
-    match d {
-        Digits::Invalid => Reading::NotANumber,
-        Digits::Value(v) => {
-            if v < m as u64 {
-                Reading::Number(v as i32)
-            } else {
-                Reading::Outside
-            }
-        }
+    let v = digits.ok_or(NumberError::NotANumber)?;
+    if v < m as u64 {
+        Ok(v as i32)
+    } else {
+        Err(NumberError::Outside)
     }
 }
 
 // The number of digits behind a minus.
-fn negative(d: Digits, m: u32) -> Reading
+fn negative(digits: Option<u64>, m: u32) -> Result<i32, NumberError>
     requires { m ≤ 2 ^ 29 }
-    ensures { result ≡ negative_of m d }
+    ensures { result ≡ negative_of m digits }
 {
-    match d {
-        Digits::Invalid => Reading::NotANumber,
-        Digits::Value(v) => {
-            if v <= m as u64 {
-                Reading::Number(0 - v as i32)
-            } else {
-                Reading::Outside
-            }
-        }
+    let v = digits.ok_or(NumberError::NotANumber)?;
+    if v <= m as u64 {
+        Ok(-(v as i32))
+    } else {
+        Err(NumberError::Outside)
     }
 }
 
@@ -120,25 +95,20 @@ fn negative(d: Digits, m: u32) -> Reading
 fn sign_length(b: u8) -> usize
     ensures { result ≡ sign_length b }
 {
-    match b {
-        b'+' | b'-' => 1,
-        _ => 0,
-    }
+    if matches!(b, b'+' | b'-') { 1 } else { 0 }
 }
 
 // The word as a number of -m..m-1.
-pub fn read_number(w: &[u8], m: u32) -> Reading
+pub fn read_number(w: &[u8], m: u32) -> Result<i32, NumberError>
     requires { (1 ≤ m) × (m ≤ 2 ^ 29) }
     ensures value { result ≡ reading_of m (number w.now) }
     ensures answer { answer_of result ≡ input_number m (number w.now) }
 {
-    if w.len() == 0 {
-        return Reading::NotANumber;
-    }
-    let b = w[0];
-    let d = read_digits(w, sign_length(b));
+    let &b = w.first().ok_or(NumberError::NotANumber)?;
+    let digits = read_digits(&w[sign_length(b)..]);
     if b == b'-' {
-        return negative(d, m);
+        negative(digits, m)
+    } else {
+        positive(digits, m)
     }
-    positive(d, m)
 }

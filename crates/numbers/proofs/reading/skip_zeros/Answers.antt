@@ -1,11 +1,25 @@
--- `reading::skip_zeros` meets its contract: the digits from i on come to the same value. Assumes nothing.
-use mathlib.Core.Path.{◌∙◌}
-use native.Mathlib.Omega.{arith}
-use Rattle.numbers.proofs.ReadingLaws.{zero-digit}
+-- `reading::skip_zeros` meets its contract: the digits behind the zeros come to the same value. Assumes nothing.
+use Rattle.std.proofs.Common.{◌≡◌, ◌∙◌, ap, sym, rules, ℕ, Bool, Option}
+use borrow.Author.Tests.{tests}
+use mathlib.Core.Bool.{not}
+use lib.Dec.{eqb}
+use lib.ListN.{length, drop}
+use Rattle.std.specs.List.{position, position_or_len}
+use Rattle.std.specs.Option.{unwrap_or}
+use Rattle.std.proofs.lemmas.List.{take_rest}
+use Rattle.std.proofs.lemmas.Iterator.{YieldsList-from_slice}
+use Rattle.std.proofs.lemmas.Iterator.Search.{position_from_yields_List}
+use Rattle.model.specs.Numbers.{digits_from}
+use Rattle.numbers.proofs.ReadingLaws.{zeros-passed, place-found}
 use Rattle.numbers.proofs.reading.skip_zeros.Goals as goal
 
-pub loop-i-preserved : goal.loop-i-preserved
-loop-i-preserved c =
-    let at = c in
-    let w = at.args.w.now in
-    (omega (arith, at.loop-i-test.true), at.loop-i.invariant.1 ∙ zero-digit w at.loop-i.i at.loop-i-test.true (c.if-w-i-eq48.true))
+no-zero : ℕ → Bool
+no-zero b = not (eqb b 48)
+
+pub returns : goal.returns
+unfolding no-zero
+returns c =
+    let w = c.args.w.now in
+    let found : c.position.result ≡ position no-zero w = position_from_yields_List no-zero _ _ c.position.result c.position.ensures.ran (YieldsList-from_slice w cc) (λ x b q k. search (rules, tests)) in
+    let zeros : c.unwrap_or-zeros.result ≡ position_or_len no-zero w = c.unwrap_or-zeros.ensures ∙ ap (λ (o : Option ℕ). unwrap_or o (length w)) found ∙ place-found no-zero w in
+    zeros-passed w ∙ ap (λ (i : ℕ). digits_from 0 (drop i w)) (sym zeros) ∙ ap (digits_from 0) (sym (take_rest w _))
