@@ -1,25 +1,27 @@
 -- However a file is cut into chunks, the scan of them gives the settings of the whole file. Assumes nothing.
 use Prim.Native.Nat.{ℕ, suc, ◌+◌, ◌*◌, ◌^◌, ◌≤◌, ◌<◌}
-use mathlib.Core.Path.{◌≡◌, refl, sym, ap, ◌∙◌}
+use mathlib.Core.Path.{◌≡◌, refl, sym, ap, subst, ◌∙◌}
 use mathlib.Core.Bool.{Bool, true, false, cond, false≢true}
 use mathlib.Core.List.{List, [], ◌∷◌, ◌++◌, flatten, foldl, foldl-append}
 use mathlib.Core.Option.{Option, none, some}
+use Rattle.std.specs.Prelude.{Some, None}
+use Rattle.std.specs.Prelude as prelude
 use native.Mathlib.Decide.{dec_lt}
 use native.Mathlib.Nat.{add-zero, pow-suc, pow-le-pow_right}
 use native.Mathlib.Numerals.{add-one}
 use native.Mathlib.Omega.{arith}
 use lib.Dec.{eqb}
 use lib.ListN.{length, length-append}
-use borrow.Author.Tests.{lt-ltb, le-ltb, le-leb, ne_eqb}
+use borrow.Author.Tests.{lt-ltb, le-leb, ne_eqb}
 use Rattle.model.specs.Load.{keep}
 use Rattle.model.specs.Numbers.{is_blank, is_digit, digits_from, mapped}
 use Rattle.model.specs.declared.Parameters.{Parameters}
 use Rattle.model.proofs.Fits.{and_both}
 use Rattle.settings.specs.declared.Scan.{Scan}
 use Rattle.model.specs.Settings.{fields_from, fields, setting, all_settings, zeros, five, settings}
-use Rattle.settings.specs.Scans.{unread, shifted, counted, ended, extends, extended, scanned, scanned_all, scan_of, settings_of}
+use Rattle.settings.specs.Scans.{unread, shifted, with_word, ended, extends, extended, scanned, scanned_all, scan_of, five_of, settings_of}
 use Rattle.settings.proofs.WordLaws.{digit-behind, settings_cons, fields-blank, fields_byte, Bad, bad-long, bad_other, bad-fields}
-use Rattle.settings.proofs.ScanLaws.{Void, room, ended-none, ended-word, ended_void, scanned-blank, scanned-digit, scanned-bad, scanned_void}
+use Rattle.settings.proofs.ScanLaws.{Void, room, ended-none, ended-word, ended-sixth, scanned-blank, scanned-digit, scanned-bad, scanned_void}
 
 -- FIVE WORDS
 -- The parameters of k words, the last of which are p, and of those behind them.
@@ -49,18 +51,19 @@ five-finish (some (k ∷ n ∷ s ∷ b ∷ t ∷ x ∷ vs)) =
     let m = length (k ∷ n ∷ s ∷ b ∷ t ∷ x ∷ vs) in
     simp (ne_eqb (0 + m) 5 (λ e. omega arith), ne_eqb m 5 (λ e. omega arith))
 
--- The count stops at 6, where five is passed already.
-finish-counted : (p : Parameters) (k : ℕ) (o : Option (List ℕ)) → finish p (counted k) o ≡ finish p (k + 1) o
-finish-counted p k o = go (dec_lt k 6)
-  where
-    go : Dec (k < 6) → finish p (counted k) o ≡ finish p (k + 1) o
-    go (yes l) = rw (lt-ltb k 6 l)
-    go (no g) = rw (le-ltb k 6 (omega arith)) (finish_many p 6 o (omega arith) ∙ sym (finish_many p (k + 1) o (omega arith)))
+-- The parameters of a scan's words and of those behind them.
+abbrev finishes : prelude.Option Scan → Option (List ℕ) → Parameters
+finishes None o = zeros
+finishes (Some a) o = finish a.last a.count o
+
+finishes-end : (r : prelude.Option Scan) → five_of r ≡ finishes r (some [])
+finishes-end None = refl
+finishes-end (Some a) = ap (λ (n : ℕ). cond (eqb n 5) a.last zeros) (sym (add-zero a.count))
 
 -- THE REST OF A FILE
-pub settings_of_void : (s : List ℕ) (a : Scan) → Void a → settings_of (scanned_all a s) ≡ zeros
+pub settings_of_void : (s : List ℕ) (a : prelude.Option Scan) → Void a → settings_of (scanned_all a s) ≡ zeros
 unfolding settings_of
-settings_of_void [] a h = simp (settings_of, ended_void a h)
+settings_of_void [] a h = rw h
 settings_of_void (b ∷ s) a h = settings_of_void s (scanned a b) (scanned_void a h b)
 
 -- The scan has read w, the beginning of a word or of none.
@@ -72,25 +75,39 @@ record Holds (w : List ℕ) (a : Scan) : Type 0 where
 
 -- The words behind w are finished from the end of w as from its beginning.
 finish-ended : (w : List ℕ) (a : Scan) → Holds w a → (ws : List (List ℕ)) →
-    finish (ended a).last (ended a).count (all_settings ws) ≡ finish a.last a.count (all_settings (keep w ws))
+    finishes (ended a) (all_settings ws) ≡ finish a.last a.count (all_settings (keep w ws))
 unfolding setting
 finish-ended [] a h ws = rw (ended-none a (sym h.sized))
-finish-ended (b ∷ w) a h ws =
-    let is : ¬ (a.digits ≡ 0) = λ e. omega (arith, h.sized) in
-    let e : setting (b ∷ w) ≡ some a.value = simp (setting, le-leb (length (b ∷ w)) 9 (omega (arith, h.sized, h.short)), h.valued) in
-    rw (ended-word a is)
-    (finish-counted _ a.count (all_settings ws)
-    ∙ finish_cons a.last a.count a.value (all_settings ws)
-    ∙ sym (ap (finish a.last a.count) (settings_cons (b ∷ w) ws (some a.value) e)))
+finish-ended (b ∷ w) a h ws = go (dec_lt a.count 5)
+  where
+    is : ¬ (a.digits ≡ 0)
+    is e = omega (arith, h.sized)
+
+    word : setting (b ∷ w) ≡ some a.value
+    word = simp (setting, le-leb (length (b ∷ w)) 9 (omega (arith, h.sized, h.short)), h.valued)
+
+    more : finish (shifted a.last a.value) (a.count + 1) (all_settings ws) ≡ finish a.last a.count (all_settings ((b ∷ w) ∷ ws))
+    more = finish_cons a.last a.count a.value (all_settings ws) ∙ sym (ap (finish a.last a.count) (settings_cons (b ∷ w) ws (some a.value) word))
+
+    go : Dec (a.count < 5) → finishes (ended a) (all_settings ws) ≡ finish a.last a.count (all_settings ((b ∷ w) ∷ ws))
+    go (yes l) = rw (ended-word a is l) more
+    go (no g) = rw (ended-sixth a is (omega arith)) (sym (finish_many (shifted a.last a.value) (a.count + 1) (all_settings ws) (omega arith)) ∙ more)
 
 -- Before a word.
 holds-none : (p : Parameters) (k : ℕ) → Holds [] (record { last = p; count = k; digits = 0; value = 0 })
 unfolding digits_from
 holds-none p k = record { sized = refl; short = omega arith; valued = refl; small = omega arith }
 
-holds-ended : (w : List ℕ) (a : Scan) → Holds w a → Holds [] (ended a)
-holds-ended [] a h = rw (ended-none a (sym h.sized)) h
-holds-ended (b ∷ w) a h = rw (ended-word a (λ e. omega (arith, h.sized))) (holds-none _ _)
+holds-ended : (w : List ℕ) (a r : Scan) → Holds w a → ended a ≡ Some r → Holds [] r
+holds-ended [] a r h e = let same : a ≡ r = cc (ended-none a (sym h.sized)) in subst (Holds []) same h
+holds-ended (b ∷ w) a r h e = go (dec_lt a.count 5)
+  where
+    is : ¬ (a.digits ≡ 0)
+    is e = omega (arith, h.sized)
+
+    go : Dec (a.count < 5) → Holds [] r
+    go (yes l) = let same : with_word a ≡ r = cc (ended-word a is l) in subst (Holds []) same (holds-none _ _)
+    go (no g) = cc (ended-sixth a is (omega arith))
 
 holds-digit : (w : List ℕ) (a : Scan) (b : ℕ) → Holds w a → extends a b ≡ true → Holds (w ++ (b ∷ [])) (extended a b)
 holds-digit w a b h e =
@@ -115,18 +132,21 @@ bad_byte w a b h e = go (is_digit b) refl (dec_lt a.digits 9)
 
 -- Behind the bytes s, a scan that has read w gives its words and those of s, the first of which begins with w.
 abbrev Rest : List ℕ → List ℕ → Scan → Type 0
-Rest s w a = settings_of (scanned_all a s) ≡ finish a.last a.count (all_settings (fields_from w s))
+Rest s w a = settings_of (scanned_all (Some a) s) ≡ finish a.last a.count (all_settings (fields_from w s))
 
 module _ (b : ℕ) (s w : List ℕ) (a : Scan) (h : Holds w a) (later : (w : List ℕ) (a : Scan) → Holds w a → Rest s w a) where
+  rest-ended : (r : prelude.Option Scan) → ended a ≡ r → settings_of (scanned_all r s) ≡ finishes r (all_settings (fields_from [] s))
+  rest-ended None e = settings_of_void s None refl
+  rest-ended (Some r) e = later [] r (holds-ended w a r h e)
+
   rest-blank : is_blank b ≡ true → Rest (b ∷ s) w a
-  rest-blank n =
-      rw (scanned-blank a b n, fields-blank w b s n) (later [] (ended a) (holds-ended w a h) ∙ finish-ended w a h (fields_from [] s))
+  rest-blank n = rw (scanned-blank a b n, fields-blank w b s n) (rest-ended (ended a) refl ∙ finish-ended w a h (fields_from [] s))
 
   rest_byte : is_blank b ≡ false → (x : Bool) → extends a b ≡ x → Rest (b ∷ s) w a
   rest_byte n true e =
       rw (scanned-digit a b n e, fields_byte w b s n) (later (w ++ (b ∷ [])) (extended a b) (holds-digit w a b h e))
   rest_byte n false e =
-      settings_of_void s (scanned a b) (ap (λ (r : Scan). r.count) (scanned-bad a b n e))
+      settings_of_void s (scanned (Some a) b) (scanned-bad a b n e)
       ∙ sym (ap (finish a.last a.count) (ap all_settings (fields_byte w b s n) ∙ bad-fields (w ++ (b ∷ [])) s (bad_byte w a b h e)))
 
   rest_cons : (x : Bool) → is_blank b ≡ x → Rest (b ∷ s) w a
@@ -135,26 +155,22 @@ module _ (b : ℕ) (s w : List ℕ) (a : Scan) (h : Holds w a) (later : (w : Lis
 
 rest : (s w : List ℕ) (a : Scan) → Holds w a → Rest s w a
 unfolding settings_of fields_from all_settings
-rest [] w a h = ap (λ (n : ℕ). cond (eqb n 5) (ended a).last zeros) (sym (add-zero (ended a).count)) ∙ finish-ended w a h []
+rest [] w a h = finishes-end (ended a) ∙ finish-ended w a h []
 rest (b ∷ s) w a h = rest_cons b s w a h (rest s) (is_blank b) refl
 
 -- THE FILE
 pub settings_of-file : (file : List ℕ) → settings_of (scan_of file) ≡ settings file
 settings_of-file file = rest file [] unread (holds-none zeros 0) ∙ five-finish (all_settings (fields file))
 
-scanned_chunks : (a : Scan) (chunks : List (List ℕ)) → foldl scanned_all a chunks ≡ scanned_all a (flatten chunks)
+scanned_chunks : (a : prelude.Option Scan) (chunks : List (List ℕ)) → foldl scanned_all a chunks ≡ scanned_all a (flatten chunks)
 unfolding flatten
 scanned_chunks a [] = refl
 scanned_chunks a (s ∷ chunks) = scanned_chunks (scanned_all a s) chunks ∙ sym (foldl-append scanned a s (flatten chunks))
 
 -- Chunk by chunk, the parameters of the joined bytes.
-pub settings_of_chunks : (chunks : List (List ℕ)) → settings_of (foldl scanned_all unread chunks) ≡ settings (flatten chunks)
-settings_of_chunks chunks = ap settings_of (scanned_chunks unread chunks) ∙ settings_of-file (flatten chunks)
+pub settings_of_chunks : (chunks : List (List ℕ)) → settings_of (foldl scanned_all (Some unread) chunks) ≡ settings (flatten chunks)
+settings_of_chunks chunks = ap settings_of (scanned_chunks (Some unread) chunks) ∙ settings_of-file (flatten chunks)
 
--- THE CONTRACTS
-pub scan-joined : {a r : Scan} {s : List ℕ} → r ≡ scanned_all a s →
-    (r ≡ scanned_all a s) × ((before : List ℕ) → a ≡ scan_of before → r ≡ scan_of (before ++ s))
-scan-joined {a} {r} {s} e = (e, λ before k. e ∙ ap (λ (x : Scan). scanned_all x s) k ∙ sym (foldl-append scanned unread before s))
-
-pub settings_of_meaning : {a : Scan} {r : Parameters} → r ≡ settings_of a → (r ≡ settings_of a) × ((file : List ℕ) → a ≡ scan_of file → r ≡ settings file)
+-- THE CONTRACT
+pub settings_of_meaning : {a : prelude.Option Scan} {r : Parameters} → r ≡ settings_of a → (r ≡ settings_of a) × ((file : List ℕ) → a ≡ scan_of file → r ≡ settings file)
 settings_of_meaning e = (e, λ file k. e ∙ ap settings_of k ∙ settings_of-file file)

@@ -1,14 +1,14 @@
 // `tak.par`, read piece by piece.
-ghost use Rattle.std.specs.Prelude.{◌≡◌, ◌≤◌, ◌<◌, length};
+ghost use Rattle.std.specs.Prelude.{◌≡◌, ◌≤◌, ◌<◌, length, IfOk};
 ghost use Rattle.settings.specs.Intakes.{known_wrong, untaken, goes_on, at_end, taken};
 
-use crate::transfers::Transfer;
+use crate::transfers::{Failed, Transfer};
 use crate::{Scan, scan_chunk};
 
 // The scan of the bytes so far, and how many reads may follow.
 #[derive(Clone, Copy)]
 pub struct Intake {
-    pub scan: Scan,
+    pub scan: Option<Scan>,
     pub calls: u64,
 }
 
@@ -18,28 +18,32 @@ impl Intake {
         ensures { result ≡ untaken }
     {
         Intake {
-            scan: Scan::unread(),
+            scan: Some(Scan::unread()),
             calls: Transfer::MAX_CALLS,
         }
     }
 }
 
 // The file is wrong, whatever follows.
-fn known_wrong(scan: Scan) -> bool
+#[tactic(auto, unfolding(crate::specs::Intakes::known_wrong))]
+fn known_wrong(scan: Option<Scan>) -> bool
     ensures { result ≡ known_wrong scan }
 {
-    scan.count == Scan::VOID || (scan.count == Scan::WORDS && 0 < scan.digits)
+    scan.is_none_or(|scan| scan.count == Scan::WORDS && 0 < scan.digits)
 }
 
 // Behind a piece of the file.
-fn go_on(intake: Intake, scan: Scan) -> Intake
+#[tactic(auto, unfolding(crate::specs::Intakes::goes_on))]
+fn go_on(intake: Intake, scan: Option<Scan>) -> Intake
     requires { 0 < intake.calls }
-    ensures { result ≡ goes_on intake scan }
+    ensures value { result ≡ goes_on intake scan }
+    ensures within { result.calls < intake.calls }
 {
-    let mut calls = intake.calls - 1;
-    if known_wrong(scan) {
-        calls = 0;
-    }
+    let calls = if known_wrong(scan) {
+        0
+    } else {
+        intake.calls - 1
+    };
     Intake { scan, calls }
 }
 
@@ -51,21 +55,19 @@ fn at_end(read: Transfer) -> bool
 }
 
 // Behind one read into `bytes`.
-pub fn take_piece(intake: Intake, read: Transfer, bytes: &[u8]) -> Intake
-    requires { (read.count ≤ length bytes.now) × (0 < intake.calls) }
+#[tactic(auto, unfolding(crate::specs::Intakes::taken))]
+pub fn take_piece(intake: Intake, read: Result<Transfer, Failed>, bytes: &[u8]) -> Intake
+    requires count { IfOk read (λ t. t.count ≤ length bytes.now) }
+    requires calls { 0 < intake.calls }
     ensures value { result ≡ taken intake read bytes.now }
     ensures within { result.calls < intake.calls }
 {
-    if read.failed {
-        return Intake {
-            scan: Scan::unread(),
+    match read {
+        Err(_) => Intake {
+            scan: Some(Scan::unread()),
             calls: 0,
-        };
+        },
+        Ok(read) if at_end(read) => Intake { calls: 0, ..intake },
+        Ok(read) => go_on(intake, scan_chunk(intake.scan, &bytes[..read.count])),
     }
-    let n = read.count;
-    let scan = intake.scan;
-    if at_end(read) {
-        return Intake { scan, calls: 0 };
-    }
-    go_on(intake, scan_chunk(scan, &bytes[..n]))
 }

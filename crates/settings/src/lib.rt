@@ -4,17 +4,17 @@
 mod intakes;
 mod transfers;
 
-ghost use Rattle.std.specs.Prelude.{ℕ, ◌≡◌, List, [], ◌++◌};
+ghost use Rattle.std.specs.Prelude.{ℕ, ◌≡◌, List, [], ◌++◌, Some};
 ghost use Rattle.model.specs.Settings.{settings};
 ghost use Rattle.settings.specs.Scans.{ended, extends, scanned, scanned_all, scan_of, settings_of};
 
 pub use intakes::{Intake, take_piece};
 use model::Parameters;
 use text::bytes::{is_blank, is_digit};
-pub use transfers::{Transfer, after_call, contents};
+pub use transfers::{CallError, Failed, Transfer, after_call, contents};
 
-// What the bytes so far come to: the last five words that ended, how many ended, and the digits of the word that has not, with their value.
-// A count of VOID stands for more than five words or a word that is not 1 to 9 digits.
+// What the bytes so far come to, where each word of theirs is 1 to 9 digits and at most five ended: the last five words that ended, how many ended,
+// and the digits of the word that has not, with their value. Of other bytes there is no scan.
 #[derive(Clone, Copy)]
 pub struct Scan {
     pub last: Parameters,
@@ -26,20 +26,12 @@ pub struct Scan {
 impl Scan {
     const WORDS: u32 = 5;
 
-    const VOID: u32 = 6;
-
     // Before the first byte.
     pub fn unread() -> Self
-        ensures { result ≡ scan_of [] }
+        ensures { Some result ≡ scan_of [] }
     {
         Scan {
-            last: Parameters {
-                k: 0,
-                n: 0,
-                s: 0,
-                b: 0,
-                t: 0,
-            },
+            last: Parameters::default(),
             count: 0,
             digits: 0,
             value: 0,
@@ -48,11 +40,15 @@ impl Scan {
 }
 
 // Behind a word, if there is one: it is now the last of the five.
-fn end_word(scan: Scan) -> Scan
+#[tactic(auto, unfolding(crate::specs::Scans::ended))]
+fn end_word(scan: Scan) -> Option<Scan>
     ensures { result ≡ ended scan }
 {
     if scan.digits == 0 {
-        return scan;
+        return Some(scan);
+    }
+    if Scan::WORDS <= scan.count {
+        return None;
     }
     let old = scan.last;
     let last = Parameters {
@@ -62,16 +58,12 @@ fn end_word(scan: Scan) -> Scan
         b: old.t,
         t: scan.value,
     };
-    let mut count = Scan::VOID;
-    if scan.count < Scan::VOID {
-        count = scan.count + 1;
-    }
-    Scan {
+    Some(Scan {
         last,
-        count,
+        count: scan.count + 1,
         digits: 0,
         value: 0,
-    }
+    })
 }
 
 // The byte is one digit more of a word of at most nine. The value is tested too, so that it has room for the digit in a scan of no file.
@@ -82,57 +74,40 @@ fn extends_word(scan: Scan, b: u8) -> bool
 }
 
 // Behind one byte more.
-fn scan_byte(scan: Scan, b: u8) -> Scan
+#[tactic(auto, unfolding(crate::specs::Scans::scanned))]
+fn scan_byte(scan: Option<Scan>, b: u8) -> Option<Scan>
     ensures { result ≡ scanned scan b }
 {
+    let scan = scan?;
     if is_blank(b) {
         return end_word(scan);
     }
-    let last = scan.last;
-    if extends_word(scan, b) {
-        return Scan {
-            last,
-            count: scan.count,
-            digits: scan.digits + 1,
-            value: scan.value * 10 + (b - b'0') as u32,
-        };
+    if !extends_word(scan, b) {
+        return None;
     }
-    Scan {
-        last,
-        count: Scan::VOID,
-        digits: scan.digits,
-        value: scan.value,
-    }
+    Some(Scan {
+        digits: scan.digits + 1,
+        value: scan.value * 10 + u32::from(b - b'0'),
+        ..scan
+    })
 }
 
 // Behind one chunk more of the file.
-pub fn scan_chunk(scan: Scan, chunk: &[u8]) -> Scan
+pub fn scan_chunk(scan: Option<Scan>, chunk: &[u8]) -> Option<Scan>
     ensures value { result ≡ scanned_all scan chunk.now }
     ensures joined { (before : List ℕ) → scan ≡ scan_of before → result ≡ scan_of (before ++ chunk.now) }
 {
-    let mut behind = scan;
-    let mut i = 0;
-    while i < chunk.len() {
-        behind = scan_byte(behind, chunk[i]);
-        i += 1;
-    }
-    behind
+    chunk.iter().fold(scan, |behind, b| scan_byte(behind, *b))
 }
 
 // The parameters, at the end of the file.
-pub fn settings_of(scan: Scan) -> Parameters
+#[tactic(auto, unfolding(crate::specs::Scans::settings_of))]
+pub fn settings_of(scan: Option<Scan>) -> Parameters
     ensures value { result ≡ settings_of scan }
     ensures meaning { (file : List ℕ) → scan ≡ scan_of file → result ≡ settings file }
 {
-    let whole = end_word(scan);
-    if whole.count == Scan::WORDS {
-        return whole.last;
-    }
-    Parameters {
-        k: 0,
-        n: 0,
-        s: 0,
-        b: 0,
-        t: 0,
+    match scan.and_then(end_word) {
+        Some(whole) if whole.count == Scan::WORDS => whole.last,
+        _ => Parameters::default(),
     }
 }

@@ -1,13 +1,25 @@
 // Calls of read or write, one after the other, on the bytes of one buffer.
-ghost use Rattle.std.specs.Prelude.{◌≡◌, ◌≤◌, ◌<◌};
+ghost use Rattle.std.specs.Prelude.{◌≡◌, ◌≤◌, ◌<◌, MatchResult};
 ghost use Rattle.settings.specs.Transfers.{begun, advanced, halted, after_call, contents};
 
-// The bytes moved, whether a call failed, and how many calls may follow: none behind the end of a file, the end of the buffer or a failure.
+// The bytes moved, and how many calls may follow: none behind the end of a file or the end of the buffer.
 #[derive(Clone, Copy)]
 pub struct Transfer {
     pub count: usize,
-    pub failed: bool,
     pub calls: u64,
+}
+
+// A call failed, behind so many bytes that were moved.
+#[derive(Clone, Copy)]
+pub struct Failed {
+    pub count: usize,
+}
+
+// Why a call moved nothing: a signal interrupted it, or it failed.
+#[derive(Clone, Copy)]
+pub enum CallError {
+    Interrupted,
+    Other,
 }
 
 impl Transfer {
@@ -18,82 +30,70 @@ impl Transfer {
     pub fn begun(length: usize) -> Self
         ensures { result ≡ begun length }
     {
-        let mut calls = 0;
-        if length != 0 {
-            calls = Transfer::MAX_CALLS;
-        }
-        Transfer {
-            count: 0,
-            failed: false,
-            calls,
-        }
+        let calls = if length == 0 { 0 } else { Transfer::MAX_CALLS };
+        Transfer { count: 0, calls }
     }
 }
 
 // Behind a call that moved n bytes.
+#[tactic(auto, unfolding(crate::specs::Transfers::advanced))]
 fn advance(t: Transfer, n: usize, length: usize) -> Transfer
     requires { (t.count ≤ length) × (0 < t.calls) }
     ensures { result ≡ advanced t n length }
 {
     if n == 0 {
-        return Transfer {
-            count: t.count,
-            failed: false,
-            calls: 0,
-        };
-    }
-    if n < length - t.count {
-        return Transfer {
+        Transfer { calls: 0, ..t }
+    } else if n < length - t.count {
+        Transfer {
             count: t.count + n,
-            failed: false,
             calls: t.calls - 1,
-        };
-    }
-    Transfer {
-        count: length,
-        failed: false,
-        calls: 0,
+        }
+    } else {
+        Transfer {
+            count: length,
+            calls: 0,
+        }
     }
 }
 
 // Behind a call that moved nothing: one that was interrupted is made again.
-fn halt(t: Transfer, interrupted: bool) -> Transfer
+fn halt(t: Transfer, why: CallError) -> Result<Transfer, Failed>
     requires { 0 < t.calls }
-    ensures { result ≡ halted t interrupted }
+    ensures { result ≡ halted t why }
 {
-    if interrupted {
-        return Transfer {
-            count: t.count,
-            failed: false,
+    match why {
+        CallError::Interrupted => Ok(Transfer {
             calls: t.calls - 1,
-        };
-    }
-    Transfer {
-        count: t.count,
-        failed: true,
-        calls: 0,
+            ..t
+        }),
+        CallError::Other => Err(Failed { count: t.count }),
     }
 }
 
 // Behind a call that answered `moved`.
-pub fn after_call(t: Transfer, moved: isize, interrupted: bool, length: usize) -> Transfer
+#[tactic(auto, unfolding(crate::specs::Transfers::advanced))]
+pub fn after_call(
+    t: Transfer,
+    moved: Result<usize, CallError>,
+    length: usize,
+) -> Result<Transfer, Failed>
     requires { (t.count ≤ length) × (0 < t.calls) }
-    ensures value { result ≡ after_call t moved interrupted length }
-    ensures within { (result.count ≤ length) × (result.calls < t.calls) }
+    ensures value { result ≡ after_call t moved length }
+    ensures within { MatchResult result (λ r. (r.count ≤ length) × (r.calls < t.calls)) (λ r. r.count ≤ length) }
 {
-    if moved < 0 {
-        return halt(t, interrupted);
+    match moved {
+        Ok(n) => Ok(advance(t, n, length)),
+        Err(why) => halt(t, why),
     }
-    advance(t, moved as usize, length)
 }
 
 // The bytes of the file that was read: one that cannot be read counts as empty.
-pub fn contents(t: Transfer) -> usize
+pub fn contents(t: Result<Transfer, Failed>) -> usize
     ensures value { result ≡ contents t }
-    ensures within { result ≤ t.count }
+    ensures within { MatchResult t (λ t. result ≤ t.count) (λ t. result ≤ t.count) }
 {
-    if t.failed {
-        return 0;
+    match t {
+        Ok(t) => t.count,
+        Err(_) => 0,
     }
-    t.count
 }
