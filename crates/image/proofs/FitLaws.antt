@@ -1,15 +1,15 @@
 -- The test of a cell's words, as the code makes it. Assumes nothing.
 use Prim.Native.Nat.{ℕ, ◌+◌, ◌*◌, ◌/◌, ◌%◌, ◌≤◌, ◌<◌}
 use mathlib.Core.Path.{◌≡◌, refl, sym, ◌∙◌}
-use mathlib.Core.Bool.{Bool, true, false, ◌&&◌, and-true, and-false}
+use mathlib.Core.Bool.{Bool, true, false, ◌&&◌, and-true}
 use mathlib.Core.List.{List, [], ◌∷◌}
 use native.Mathlib.Omega.{arith}
 use lib.Dec.{eqb, leb, ltb}
 use lib.ListN.{length}
-use borrow.Author.Tests.{ne_eqb, le-leb, lt-leb, leb-true, lt-ltb, le-ltb}
+use borrow.Author.Tests.{ne_eqb, le-leb, lt-leb, leb-true}
 use Rattle.model.specs.declared.Parameters.{Parameters}
-use Rattle.model.specs.Parameters.{between, limit, max_registers, in_range, Fit}
-use Rattle.model.specs.Words.{Cell, kind_of, register_kind, direct_kind, number_kind, content_of, iar_number, shr_number, number_of}
+use Rattle.model.specs.Parameters.{between, limit, in_range, Fit}
+use Rattle.model.specs.Words.{register, direct, literal, Cell, kind_of, register_kind, direct_kind, number_kind, content_of, iar_number, shr_number, number_of}
 use Rattle.model.specs.Instructions.{instruction_count, row_of}
 use Rattle.model.specs.Load.{allows, is_within}
 use Rattle.model.specs.Images.{register_fits, word_fits, words_fit, cell_fits}
@@ -22,41 +22,28 @@ use Rattle.image.specs.Decode.{argument_word_fits, argument_words_fit}
 pub is-limit : (p : Parameters) {m : ℕ} → Fit p → m ≡ limit p.k → IsLimit m
 is-limit p f e = let l = limits p f in record { k = p.k; low = l.k-low; high = l.k-high; is = e }
 
--- A REGISTER
-module _ (p : Parameters) (form r : ℕ) (few : p.n ≤ max_registers) where
-  pub register-below : r < p.n → eqb (form % 2) 1 ≡ register_fits p form r
-  unfolding allows is_within
-  register-below h = rw (lt-leb iar_number r (omega arith), lt-ltb r p.n h) (sym (and-true (eqb (form % 2) 1)))
-
-  pub register_missing : p.n ≤ r → r < iar_number → false ≡ register_fits p form r
-  unfolding allows is_within
-  register_missing l h = rw (lt-leb iar_number r h, le-ltb r p.n l) (sym (and-false (eqb (form % 2) 1)))
-
-  pub register-beyond : p.n ≤ r → iar_number ≤ r → shr_number < r → false ≡ register_fits p form r
-  unfolding allows is_within
-  register-beyond l k h = rw (le-leb iar_number r k, lt-leb r shr_number h, le-ltb r p.n l) (sym (and-false (eqb (form % 2) 1)))
-
-  pub register_special : iar_number ≤ r → r ≤ shr_number → eqb (form / 2 % 2) 1 ≡ register_fits p form r
-  unfolding allows is_within
-  register_special k h = rw (le-leb iar_number r k, le-leb r shr_number h)
+-- A REGISTER that is none of the special ones, where its form is allowed.
+pub general-register : (p : Parameters) (form r : ℕ) → between iar_number shr_number r ≡ false → allows form (register r) ≡ true → ltb r p.n ≡ register_fits p form r
+unfolding is_within
+general-register p form r e h = rw (e, h)
 
 -- A WORD, by its kind.
 module _ (p : Parameters) (form w : ℕ) where
+  pub head-word : kind_of w ≡ 0 → word_fits p form w ≡ false
+  unfolding word_fits
+  head-word e = rw e
+
   pub register-word : kind_of w ≡ register_kind → word_fits p form w ≡ register_fits p form (content_of w)
-  unfolding word_fits allows is_within
+  unfolding word_fits
   register-word e = rw e
 
-  pub direct_word : kind_of w ≡ direct_kind → word_fits p form w ≡ (eqb (form / 4 % 2) 1 && ltb (content_of w) p.b)
-  unfolding word_fits allows is_within
+  pub direct_word : kind_of w ≡ direct_kind → word_fits p form w ≡ (allows form (direct (content_of w)) && ltb (content_of w) p.b)
+  unfolding word_fits is_within
   direct_word e = rw e
 
-  pub number_word : kind_of w ≡ number_kind → word_fits p form w ≡ (eqb (form / 8 % 2) 1 && in_range (limit p.k) (number_of (content_of w)))
-  unfolding word_fits allows is_within
+  pub number_word : kind_of w ≡ number_kind → word_fits p form w ≡ (allows form (literal (number_of (content_of w))) && in_range (limit p.k) (number_of (content_of w)))
+  unfolding word_fits is_within
   number_word e = rw e
-
-  pub other_word : ¬ (kind_of w ≡ register_kind) → ¬ (kind_of w ≡ direct_kind) → ¬ (kind_of w ≡ number_kind) → word_fits p form w ≡ false
-  unfolding word_fits
-  other_word a b d = rw (ne_eqb (kind_of w) register_kind a, ne_eqb (kind_of w) direct_kind b, ne_eqb (kind_of w) number_kind d)
 
 -- THE PLACES. Forms that a packed number can hold: at most three, and none 0.
 abbrev pub are_packed : List ℕ → Bool
@@ -101,13 +88,14 @@ pub rows-packable : (n : ℕ) → packable (row_of n).forms ≡ true
 rows-packable n = row-rule (λ r. packable r.forms) refl n
 
 module _ (p : Parameters) (c : Cell) where
-  pub cell-low : c.head < 1 → cell_fits p c ≡ false
+  -- No instruction's number, the lower or the upper way.
+  pub low_head : c.head < 1 → cell_fits p c ≡ false
   unfolding cell_fits
-  cell-low h = rw (lt-leb 1 c.head h)
+  low_head h = rw (lt-leb 1 c.head h)
 
-  pub cell-high : 1 ≤ c.head → instruction_count < c.head → cell_fits p c ≡ false
+  pub high_head : instruction_count < c.head → cell_fits p c ≡ false
   unfolding cell_fits
-  cell-high l h = rw (le-leb 1 c.head l, lt-leb c.head instruction_count h)
+  high_head h = rw (le-leb 1 c.head (omega arith), lt-leb c.head instruction_count h)
 
   pub cell-between : 1 ≤ c.head → c.head ≤ instruction_count → cell_fits p c ≡ argument_words_fit p (packed (row_of c.head).forms) c.first c.second c.third
   unfolding cell_fits

@@ -1,13 +1,13 @@
 -- The check of an image, turn by turn. Assumes nothing.
-use Prim.Native.Nat.{ℕ, suc, ◌+◌, ◌*◌, ◌-◌, ◌/◌, ◌%◌, ◌≤◌, ◌<◌}
+use Prim.Native.Nat.{ℕ, suc, ◌+◌, ◌*◌, ◌-◌, ◌≤◌, ◌<◌}
 use mathlib.Core.Path.{◌≡◌, refl, sym, ap, ◌∙◌}
 use mathlib.Core.Bool.{Bool, true, false}
-use mathlib.Core.List.{List}
-use native.Mathlib.Numerals.{add-one}
+use mathlib.Core.List.{List, [], ◌∷◌, ◌++◌}
 use native.Mathlib.Omega.{arith}
-use lib.ListN.{length, get_or, take, drop, length-drop, drop_of_length-le}
-use lib.Seq.{drop-cons, drop-drop, length-take-le}
-use borrow.Author.Tests.{eq-eqb, ne_eqb}
+use lib.Dec.{eqb}
+use lib.ListN.{length, take, drop, length-drop, length-append}
+use lib.Seq.{drop-drop, take_at, drop_at}
+use Rattle.std.specs.List.{list_all}
 use Rattle.model.specs.declared.Parameters.{Parameters}
 use Rattle.model.specs.Words.{Cell, cell_of, is_empty}
 use Rattle.model.specs.Images.{cell_fits, all_zero, cells_fit, image_fits}
@@ -17,18 +17,10 @@ use Rattle.image.specs.declared.decode.Decoded.TheVariants.{Runs, Empty, Invalid
 use Rattle.image.specs.Decode.{decoded_of}
 
 -- ZEROS
-pub zeros-end : (ws : List ℕ) (i : ℕ) → length ws ≤ i → all_zero (drop i ws) ≡ true
+pub zeros : (ws : List ℕ) → list_all (λ w. eqb w 0) ws ≡ all_zero ws
 unfolding all_zero
-zeros-end ws i h = rw (drop_of_length-le ws h)
-
-module _ (ws : List ℕ) (i : ℕ) (inside : i < length ws) where
-  pub zero_more : get_or ws i 0 ≡ 0 → all_zero (drop i ws) ≡ all_zero (drop (i + 1) ws)
-  unfolding all_zero
-  zero_more e = rw (add-one i, drop-cons ws i 0) (simp (all_zero, eq-eqb _ _ e))
-
-  pub zero-not : ¬ (get_or ws i 0 ≡ 0) → all_zero (drop i ws) ≡ false
-  unfolding all_zero
-  zero-not e = rw (drop-cons ws i 0) (simp (all_zero, ne_eqb _ _ e))
+zeros [] = refl
+zeros (w ∷ ws) = rw (zeros ws)
 
 -- CELLS. What is left to test behind a cell that was decoded.
 abbrev behind : Parameters → (t : ℕ) (ws : List ℕ) → Decoded → Bool
@@ -48,37 +40,45 @@ first_cell p t ws = go (is_empty c) refl (cell_fits p c) refl
     go false h true k = simp (cells_fit, decoded_of, h, k)
     go false h false k = simp (cells_fit, decoded_of, h, k)
 
--- The cells from the word `at` on.
-abbrev pub cells_from : Parameters → List ℕ → ℕ → Bool
-cells_from p image at = cells_fit p (p.t - at / 4) (drop at image)
+-- The image fits if the cells from the n-th on, `rest`, do.
+pub record Remaining (p : Parameters) (image rest : List ℕ) (n : ℕ) : Type 0 where
+  pub is-rest : rest ≡ drop (4 * n) image
+  pub same : image_fits p image ≡ cells_fit p (p.t - n) rest
 
-pub cells-start : (p : Parameters) (image : List ℕ) → image_fits p image ≡ cells_from p image 0
-cells-start p image = let e : p.t - 0 / 4 ≡ p.t = omega arith in rw e
+pub begins : (p : Parameters) (image : List ℕ) → Remaining p image image 0
+begins p image = let e : p.t - 0 ≡ p.t = omega arith in record { is-rest = refl; same = rw e }
 
-pub cells-end : (p : Parameters) (image : List ℕ) (at : ℕ) → 4 * p.t ≤ at → cells_from p image at ≡ true
-unfolding cells_fit
-cells-end p image at h = let e : p.t - at / 4 ≡ 0 = omega arith in rw e
+module _ {p : Parameters} {image rest : List ℕ} {n : ℕ} (h : length image ≡ 4 * p.t) (g : Remaining p image rest n) where
+  rest-length : length rest ≡ 4 * p.t - 4 * n
+  rest-length = rw (g.is-rest, length-drop (4 * n) image, h)
 
--- The cell at `at`, lent as a part of the image.
-module _ (p : Parameters) (image : List ℕ) (at : ℕ) (more : at < 4 * p.t) (whole : at % 4 ≡ 0) where
-  next-cell : cells_from p image at ≡ behind p (p.t - (at + 4) / 4) (drop at image) (decoded_of p (cell_of (take (at + 4 - at) (drop at image))))
-  next-cell =
-      let e : p.t - at / 4 ≡ suc (p.t - (at + 4) / 4) = omega arith in
-      let g : at + 4 - at ≡ 4 = omega arith in
-      rw (e, g) (first_cell p (p.t - (at + 4) / 4) (drop at image))
+  pub ends : length rest < 4 → true ≡ image_fits p image
+  unfolding cells_fit
+  ends l = let e : p.t - n ≡ 0 = omega (arith, rest-length) in sym (rw e at g.same)
 
-  pub part_length : length image ≡ 4 * p.t → length (take (at + 4 - at) (drop at image)) ≡ 4
-  part_length h = length-take-le (at + 4 - at) (drop at image) (omega (arith, length-drop at image)) ∙ omega arith
+  -- The next four words, and what the decoder says of them.
+  module _ (cell tail : List ℕ) (split : rest ≡ cell ++ tail) (four : length cell ≡ 4) where
+    long : 4 ≤ length rest
+    long = rw split (simp length-append (omega arith))
 
-  module _ {d : Decoded} (e : d ≡ decoded_of p (cell_of (take (at + 4 - at) (drop at image)))) where
-    told : {x : Decoded} → d ≡ x → cells_from p image at ≡ behind p (p.t - (at + 4) / 4) (drop at image) x
-    told h = next-cell ∙ ap (behind p (p.t - (at + 4) / 4) (drop at image)) (sym e ∙ h)
+    next-cell : image_fits p image ≡ behind p (p.t - (n + 1)) rest (decoded_of p (cell_of cell))
+    next-cell =
+        let e : p.t - n ≡ suc (p.t - (n + 1)) = omega (arith, rest-length, long) in
+        let f : take 4 rest ≡ cell = rw split (take_at cell tail 4 four) in
+        rw f at (rw e at g.same ∙ first_cell p (p.t - (n + 1)) rest)
 
-    pub cell-runs : {i : Instruction} → d ≡ Runs i → cells_from p image at ≡ cells_from p image (at + 4)
-    cell-runs h = told h ∙ rw (drop-drop 4 at image)
+    module _ {d : Decoded} (e : d ≡ decoded_of p (cell_of cell)) where
+      told : {x : Decoded} → d ≡ x → image_fits p image ≡ behind p (p.t - (n + 1)) rest x
+      told k = next-cell ∙ ap (behind p (p.t - (n + 1)) rest) (sym e ∙ k)
 
-    pub cell_empty : d ≡ Empty → cells_from p image at ≡ all_zero (drop at image)
-    cell_empty h = told h
+      pub cell-runs : {i : Instruction} → d ≡ Runs i → Remaining p image tail (n + 1)
+      cell-runs k =
+          let f : drop 4 rest ≡ tail = rw split (drop_at cell tail 4 four) in
+          let m : 4 * n + 4 ≡ 4 * (n + 1) = omega arith in
+          record { is-rest = sym f ∙ rw g.is-rest (drop-drop 4 (4 * n) image) ∙ ap (λ (j : ℕ). drop j image) m; same = rw f at (told k) }
 
-    pub cell_invalid : d ≡ Invalid → cells_from p image at ≡ false
-    cell_invalid h = told h
+      pub cell_empty : d ≡ Empty → (start : ℕ) → start ≡ 4 * n → all_zero (drop start image) ≡ image_fits p image
+      cell_empty k start j = rw j (sym (rw g.is-rest at (told k)))
+
+      pub cell_invalid : d ≡ Invalid → false ≡ image_fits p image
+      cell_invalid k = sym (told k)

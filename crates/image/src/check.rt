@@ -1,5 +1,5 @@
 // The check of a whole image: refusal 10.
-ghost use Rattle.std.specs.Prelude.{◌≡◌, ◌*◌, ◌≤◌, length, drop};
+ghost use Rattle.std.specs.Prelude.{◌≡◌, ◌*◌, length};
 ghost use Rattle.model.specs.Parameters.{Fit};
 ghost use Rattle.model.specs.Images.{all_zero, image_fits};
 
@@ -8,19 +8,11 @@ use crate::forms::form_table;
 use bounds::limits::limit_of;
 use model::Parameters;
 
-// The words from `start` on are zeros.
-fn all_zero(words: &[u32], start: usize) -> bool
-    requires { start ≤ length words.now }
-    ensures { result ≡ all_zero (drop start words.now) }
+// All words are zeros.
+fn all_zero(words: &[u32]) -> bool
+    ensures { result ≡ all_zero words.now }
 {
-    let mut i = start;
-    while i < words.len() {
-        if words[i] != 0 {
-            return false;
-        }
-        i += 1;
-    }
-    true
+    words.iter().all(|&w| w == 0)
 }
 
 // Each cell is an instruction or empty, and only empty cells follow an empty one.
@@ -31,14 +23,10 @@ pub fn image_fits(p: Parameters, image: &[u32]) -> bool
 {
     let m = limit_of(p.k);
     let forms = form_table();
-    let end = image.len();
-    let mut at = 0;
-    while at < end {
-        let next = at + 4;
-        let decoded = decode(&image[at..next], p, m, &forms);
-        match decoded {
-            Decoded::Runs(_) => at = next,
-            Decoded::Empty => return all_zero(image, at),
+    for (at, cell) in image.chunks_exact(4).enumerate() {
+        match decode(cell, p, m, &forms) {
+            Decoded::Runs(_) => {}
+            Decoded::Empty => return all_zero(&image[4 * at..]),
             Decoded::Invalid => return false,
         }
     }

@@ -1,19 +1,22 @@
 // A cell of an image taken apart, and whether a text can yield it.
 ghost use Rattle.std.specs.Prelude.{◌≡◌, ◌≤◌, length};
-ghost use Rattle.model.specs.Parameters.{limit, max_registers, Fit};
-ghost use Rattle.model.specs.Words.{cell_of, is_empty};
+ghost use Rattle.model.specs.Parameters.{limit, Fit};
+ghost use Rattle.model.specs.Words.{cell_of};
 ghost use Rattle.model.specs.Images.{register_fits, word_fits, cell_fits};
 ghost use Rattle.image.specs.Forms.{form_table};
 ghost use Rattle.image.specs.Decode.{instruction_of, cell_from, argument_word_fits, argument_words_fit, decoded_of};
 
-use crate::forms::{INSTRUCTIONS, forms_of};
+use crate::forms::{
+    INSTRUCTIONS, allows_direct, allows_number, allows_register, allows_special, forms_of,
+};
+use crate::kinds::Kind;
 use crate::words::{content, kind, number};
 use bounds::ranges::in_range;
 use model::Parameters;
-use model::words::{DIRECT, IAR, NUMBER, REGISTER, SHR};
+use model::words::{IAR, SHR};
 
 // An instruction's number and the words of its arguments; an absent one is 0.
-#[derive(Clone, Copy)]
+#[derive(Clone, Copy, PartialEq, Eq)]
 pub struct Instruction {
     pub number: u32,
     pub first: u32,
@@ -21,8 +24,18 @@ pub struct Instruction {
     pub third: u32,
 }
 
-// What a cell is: an instruction, empty, or one that no text yields.
-#[derive(Clone, Copy)]
+impl Instruction {
+    // The four zeros of an empty cell.
+    pub const EMPTY: Instruction = Instruction {
+        number: 0,
+        first: 0,
+        second: 0,
+        third: 0,
+    };
+}
+
+// What a cell is: an instruction, empty, or one that no text yields. All three are answers, so that a Result round an Option would be no plainer.
+#[derive(Clone, Copy, PartialEq, Eq)]
 pub enum Decoded {
     Runs(Instruction),
     Empty,
@@ -44,19 +57,12 @@ pub fn read_cell(cell: &[u32]) -> Instruction
 
 // A register at a place of this form: R0 to R(N-1), or one of the special registers.
 fn register_fits(p: Parameters, form: u32, index: u32) -> bool
-    requires { p.n ≤ max_registers }
     ensures { result ≡ register_fits p form index }
 {
-    if index < p.n {
-        return form % 2 == 1;
+    match index {
+        IAR..=SHR => allows_special(form),
+        _ => allows_register(form) && index < p.n,
     }
-    if index < IAR {
-        return false;
-    }
-    if SHR < index {
-        return false;
-    }
-    form / 2 % 2 == 1
 }
 
 // A word at a place of this form.
@@ -65,76 +71,55 @@ fn word_fits(p: Parameters, m: u32, form: u32, w: u32) -> bool
     requires m_value { m ≡ limit p.k }
     ensures { result ≡ word_fits p form w }
 {
-    let k = kind(w);
-    match k {
-        REGISTER => register_fits(p, form, content(w)),
-        DIRECT => form / 4 % 2 == 1 && content(w) < p.b,
-        NUMBER => form / 8 % 2 == 1 && in_range(m, number(w)),
-        _ => false,
+    match kind(w) {
+        Kind::Head => false,
+        Kind::Register => register_fits(p, form, content(w)),
+        Kind::Direct => allows_direct(form) && content(w) < p.b,
+        Kind::Number => allows_number(form) && in_range(m, number(w)),
     }
 }
 
 // The same, where a place with form 0 has no argument.
+#[tactic(auto, unfolding(crate::specs::Decode::argument_word_fits))]
 fn argument_word_fits(p: Parameters, m: u32, form: u32, w: u32) -> bool
     requires fit { Fit p }
     requires m_value { m ≡ limit p.k }
     ensures { result ≡ argument_word_fits p form w }
 {
-    if form == 0 {
-        return w == 0;
+    match form {
+        0 => w == 0,
+        _ => word_fits(p, m, form, w),
     }
-    word_fits(p, m, form, w)
 }
 
 // The three words behind the head, at places of these forms.
+#[tactic(auto, unfolding(crate::specs::Decode::argument_words_fit))]
 fn arguments_fit(p: Parameters, m: u32, forms: u32, i: Instruction) -> bool
     requires fit { Fit p }
     requires m_value { m ≡ limit p.k }
     ensures { result ≡ argument_words_fit p forms i.first i.second i.third }
 {
-    if !argument_word_fits(p, m, forms % 16, i.first) {
-        return false;
-    }
-    if !argument_word_fits(p, m, forms / 16 % 16, i.second) {
-        return false;
-    }
-    argument_word_fits(p, m, forms / 256, i.third)
+    argument_word_fits(p, m, forms % 16, i.first)
+        && argument_word_fits(p, m, forms / 16 % 16, i.second)
+        && argument_word_fits(p, m, forms / 256, i.third)
 }
 
 // An instruction's number, and arguments as its row has them.
+#[tactic(auto, using(crate::proofs::FitLaws::low_head, crate::proofs::FitLaws::high_head))]
 fn cell_fits(p: Parameters, m: u32, forms: &[u32], i: Instruction) -> bool
     requires fit { Fit p }
     requires m_value { m ≡ limit p.k }
     requires forms_value { forms.now ≡ form_table }
     ensures { result ≡ cell_fits p (cell_from i) }
 {
-    let number = i.number;
-    if number < 1 {
-        return false;
+    match i.number {
+        1..=INSTRUCTIONS => arguments_fit(p, m, forms_of(forms, i.number), i),
+        _ => false,
     }
-    if INSTRUCTIONS < number {
-        return false;
-    }
-    arguments_fit(p, m, forms_of(forms, number), i)
-}
-
-// Four zeros.
-fn is_empty(i: Instruction) -> bool
-    ensures { result ≡ is_empty (cell_from i) }
-{
-    if i.number != 0 {
-        return false;
-    }
-    if i.first != 0 {
-        return false;
-    }
-    if i.second != 0 {
-        return false;
-    }
-    i.third == 0
 }
 
 // What a cell is. m is document 01's M, and `forms` the table of forms.
+#[tactic(auto, unfolding(crate::specs::Decode::decoded_of))]
 pub fn decode(cell: &[u32], p: Parameters, m: u32, forms: &[u32]) -> Decoded
     requires cell_len { length cell.now ≡ 4 }
     requires fit { Fit p }
@@ -143,11 +128,11 @@ pub fn decode(cell: &[u32], p: Parameters, m: u32, forms: &[u32]) -> Decoded
     ensures { result ≡ decoded_of p (cell_of cell.now) }
 {
     let i = read_cell(cell);
-    if is_empty(i) {
-        return Decoded::Empty;
+    if i == Instruction::EMPTY {
+        Decoded::Empty
+    } else if cell_fits(p, m, forms, i) {
+        Decoded::Runs(i)
+    } else {
+        Decoded::Invalid
     }
-    if cell_fits(p, m, forms, i) {
-        return Decoded::Runs(i);
-    }
-    Decoded::Invalid
 }

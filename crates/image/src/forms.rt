@@ -1,6 +1,8 @@
 // The forms of the instructions' arguments, as a table that a call makes once and lends.
-ghost use Rattle.std.specs.Prelude.{◌≡◌, ◌≤◌};
+ghost use Rattle.std.specs.Prelude.{◌≡◌, ◌≤◌, ℕ, ℤ};
 ghost use Rattle.model.specs.Instructions.{instruction_count, row_of};
+ghost use Rattle.model.specs.Load.{allows};
+ghost use Rattle.model.specs.Words.{register, special, direct, literal};
 ghost use Rattle.image.specs.Forms.{packed, form_table};
 
 // How many instructions there are.
@@ -32,4 +34,36 @@ pub fn forms_of(table: &[u32], number: u32) -> u32
 {
     let i = (number - 1) as usize;
     table[i]
+}
+
+// A form is a sum of 1, 2, 4 and 8, for what it allows. A general register;
+#[tactic(auto, unfolding(model::specs::Load::allows))]
+pub fn allows_register(form: u32) -> bool
+    ensures { (r : ℕ) → result ≡ allows form (register r) }
+{
+    form % 2 == 1
+}
+
+// a special one;
+#[tactic(auto, unfolding(model::specs::Load::allows))]
+pub fn allows_special(form: u32) -> bool
+    ensures { (r : ℕ) → result ≡ allows form (special r) }
+{
+    form / 2 % 2 == 1
+}
+
+// a data cell;
+#[tactic(auto, unfolding(model::specs::Load::allows))]
+pub fn allows_direct(form: u32) -> bool
+    ensures { (d : ℕ) → result ≡ allows form (direct d) }
+{
+    form / 4 % 2 == 1
+}
+
+// a number.
+#[tactic(auto, unfolding(model::specs::Load::allows))]
+pub fn allows_number(form: u32) -> bool
+    ensures { (z : ℤ) → result ≡ allows form (literal z) }
+{
+    form / 8 % 2 == 1
 }

@@ -4,4 +4,5 @@
 pub mod check;
 pub mod decode;
 pub mod forms;
+pub mod kinds;
 pub mod words;

@@ -1,14 +1,21 @@
 // A word of an image taken apart.
 ghost use Rattle.std.specs.Prelude.{◌≡◌};
 ghost use Rattle.model.specs.Words.{kind_of, content_of, number_of};
+ghost use Rattle.image.specs.Kinds.{number_of_kind};
 
-use model::words::KIND;
+use crate::kinds::Kind;
+use model::words::{DIRECT, KIND, NUMBER, REGISTER};
 
 // The top two bits.
-pub fn kind(w: u32) -> u32
-    ensures { result ≡ kind_of w }
+pub fn kind(w: u32) -> Kind
+    ensures { number_of_kind result ≡ kind_of w }
 {
-    w / KIND
+    match w / KIND {
+        REGISTER => Kind::Register,
+        DIRECT => Kind::Direct,
+        NUMBER => Kind::Number,
+        _ => Kind::Head,
+    }
 }
 
 // The low 30 bits.

@@ -1,12 +1,10 @@
-use Prim.Native.Nat.{◌-◌, ◌*◌, ◌%◌, ◌≤◌}
 use mathlib.Core.Path.{◌≡◌}
-use Rattle.model.specs.Images.{image_fits}
-use Rattle.image.proofs.ImageLaws.{cells_from}
+use Rattle.std.specs.Iterator.Adapters.{enumerate_source, enumerate_count}
+use Rattle.std.specs.Slice.Iter.{chunks_exact_rest, chunks_exact_size}
+use Rattle.image.proofs.ImageLaws.{Remaining}
 use Rattle.image.proofs.check.image_fits.Given as goal
 
 abbrev pub invariant-loop-at : goal.invariant-loop-at
 invariant-loop-at l =
-    (l.at ≤ 4 * l.p.t) × (l.at % 4 ≡ 0) × (image_fits l.p l.image ≡ cells_from l.p l.image l.at)
-
-abbrev pub decreases-loop-at : goal.decreases-loop-at
-decreases-loop-at l = 4 * l.p.t - l.at
+    let cells = enumerate_source l.at-iterator in
+    (chunks_exact_size cells ≡ 4) × Remaining l.p l.image (chunks_exact_rest cells) (enumerate_count l.at-iterator)

@@ -1,24 +1,16 @@
 -- `decode::register_fits` meets its contract. Assumes nothing.
-use native.Mathlib.Omega.{arith}
-use Rattle.image.proofs.FitLaws.{register-below, register_missing, register-beyond, register_special}
+use mathlib.Core.Path.{◌≡◌, sym, ◌∙◌}
+use mathlib.Core.Bool.{false}
+use borrow.Author.Rules.{rules}
+use Rattle.model.specs.Parameters.{between}
+use Rattle.model.specs.Words.{iar_number, shr_number}
+use Rattle.image.proofs.FitLaws.{general-register}
 use Rattle.image.proofs.decode.register_fits.Goals as goal
+use Rattle.image.proofs.decode.register_fits.Goals.{in_default-via-then-index-lt256, in_default-via-else-index-lt256+else-index-lt259}
 
-pub returns-then-index-p : goal.returns-then-index-p
-returns-then-index-p c =
-    let start = c in
-    register-below start.args.p start.args.form start.args.index start.requires (omega arith)
-
-pub returns-then-index-lt-IAR : goal.returns-then-index-lt-IAR
-returns-then-index-lt-IAR c =
-    let start = c in
-    register_missing start.args.p start.args.form start.args.index start.requires c.if-index-p.false c.if-index-lt-IAR.true
-
-pub returns-then-index-gt-SHR : goal.returns-then-index-gt-SHR
-returns-then-index-gt-SHR c =
-    let start = c in
-    register-beyond start.args.p start.args.form start.args.index start.requires c.if-index-p.false c.if-index-lt-IAR.false c.if-index-gt-SHR.true
-
-pub returns : goal.returns
-returns c =
-    let start = c in
-    register_special start.args.p start.args.form start.args.index start.requires c.if-index-lt-IAR.false c.if-index-gt-SHR.false
+pub returns-then-allows_register : goal.returns-then-allows_register
+returns-then-allows_register c =
+    let other : between iar_number shr_number c.args.index ≡ false =
+    elim c.in_default.branch [ in_default-via-then-index-lt256 w ↦ search rules | in_default-via-else-index-lt256+else-index-lt259 w ↦ search rules ]
+    in
+    general-register c.args.p c.args.form c.args.index other (sym (c.allows_register.ensures c.args.index) ∙ c.if-allows_register.true)

@@ -1,54 +1,43 @@
 -- `decode::word_fits` meets its contract. Assumes nothing.
-use native.Mathlib.Omega.{arith}
 use mathlib.Core.Path.{sym, ◌∙◌}
-use borrow.Author.Tests.{eq-eqb, ne_eqb}
 use mir.Facts.{to_z-of_z}
 use mir.Syntax.{w32}
 use mir.Val.{SFits}
-use Rattle.model.proofs.Fits.{limits}
-use Rattle.image.proofs.FitLaws.{is-limit, register-word, direct_word, number_word, other_word}
+use Rattle.model.specs.Words.{content_of, number_of}
+use Rattle.image.proofs.FitLaws.{is-limit, head-word, register-word, direct_word, number_word}
 use Rattle.image.proofs.decode.word_fits.Goals as goal
 
-pub register_fits-requires : goal.register_fits-requires
-register_fits-requires c =
-    let start = c in
-    (limits start.args.p start.requires.fit).n-high
-
 pub in_range-requires : goal.in_range-requires
-in_range-requires c =
-    let start = c in
-    is-limit start.args.p start.requires.fit start.requires.m_value
+in_range-requires c = is-limit c.args.p c.requires.fit c.requires.m_value
 
-pub returns-in-1 : goal.returns-in-1
-returns-in-1 c =
+pub returns-in-Head : goal.returns-in-Head
+returns-in-Head c =
     let a = c.args in
-    rw c.content.ensures at c.register_fits.ensures ∙ sym (register-word a.p a.form a.w (sym c.kind-k.ensures ∙ c.in-1.is))
+    sym (head-word a.p a.form a.w (rw c.in-Head.is at (sym c.kind.ensures)))
 
-pub returns-then-form-eq1 : goal.returns-then-form-eq1
-returns-then-form-eq1 c =
+pub returns-in-Register : goal.returns-in-Register
+returns-in-Register c =
     let a = c.args in
-    rw (direct_word a.p a.form a.w (sym c.kind-k.ensures ∙ c.in-2.is), eq-eqb _ _ c.if-form-eq1.true, c.content-then-form-eq1.ensures)
+    rw c.content.ensures at c.register_fits.ensures ∙ sym (register-word a.p a.form a.w (rw c.in-Register.is at (sym c.kind.ensures)))
 
-pub returns-else-form-eq1 : goal.returns-else-form-eq1
-returns-else-form-eq1 c =
+pub returns-then-allows_direct : goal.returns-then-allows_direct
+returns-then-allows_direct c =
     let a = c.args in
-    rw (direct_word a.p a.form a.w (sym c.kind-k.ensures ∙ c.in-2.is), ne_eqb _ _ c.if-form-eq1.false)
+    rw (direct_word a.p a.form a.w (rw c.in-Direct.is at (sym c.kind.ensures)), sym (c.allows_direct.ensures (content_of a.w)) ∙ c.if-allows_direct.true, c.content-then-allows_direct.ensures)
 
-pub returns-then-form-eq1-2 : goal.returns-then-form-eq1-2
-returns-then-form-eq1-2 c =
-    let start = c in
-    let a = start.args in
+pub returns-else-allows_direct : goal.returns-else-allows_direct
+returns-else-allows_direct c =
+    let a = c.args in
+    rw (direct_word a.p a.form a.w (rw c.in-Direct.is at (sym c.kind.ensures)), sym (c.allows_direct.ensures (content_of a.w)) ∙ c.if-allows_direct.false, c.if-allows_direct.false)
+
+pub returns-then-allows_number : goal.returns-then-allows_number
+returns-then-allows_number c =
+    let a = c.args in
     let f : SFits w32 c.number.result = record { sfits = c.number.type_inv } in
-    rw (number_word a.p a.form a.w (sym c.kind-k.ensures ∙ c.in-3.is), eq-eqb _ _ c.if-form-eq1-2.true)
-    (rw (to_z-of_z f, c.number.ensures, start.requires.m_value) at c.in_range.ensures)
+    rw (number_word a.p a.form a.w (rw c.in-Number.is at (sym c.kind.ensures)), sym (c.allows_number.ensures (number_of (content_of a.w))) ∙ c.if-allows_number.true)
+    (rw (to_z-of_z f, c.number.ensures, c.requires.m_value) at c.in_range.ensures)
 
-pub returns-else-form-eq1-2 : goal.returns-else-form-eq1-2
-returns-else-form-eq1-2 c =
+pub returns-else-allows_number : goal.returns-else-allows_number
+returns-else-allows_number c =
     let a = c.args in
-    rw (number_word a.p a.form a.w (sym c.kind-k.ensures ∙ c.in-3.is), ne_eqb _ _ c.if-form-eq1-2.false)
-
-pub returns-in_default : goal.returns-in_default
-returns-in_default c =
-    let a = c.args in
-    let k = c.kind-k.ensures in
-    sym (other_word a.p a.form a.w (λ e. omega (arith, k ∙ e)) (λ e. omega (arith, k ∙ e)) (λ e. omega (arith, k ∙ e)))
+    rw (number_word a.p a.form a.w (rw c.in-Number.is at (sym c.kind.ensures)), sym (c.allows_number.ensures (number_of (content_of a.w))) ∙ c.if-allows_number.false, c.if-allows_number.false)
