@@ -15,6 +15,7 @@ use Rattle.model.specs.declared.Parameters.{Parameters}
 use Rattle.model.specs.Parameters.{between}
 use Rattle.model.specs.Words.{Cell, kind_of, direct_kind}
 use Rattle.model.specs.Instructions.{Operation, clear_registers, clear_cells, dump_registers, dump_cells, inputs, outputs, pushes, pops, skips, idles, writes, jumps, jumps_on, Row, rows, row_of, directs, times, cost_of, is_direct, instruction_count}
+use Rattle.model.specs.Load.{allows}
 use Rattle.model.specs.Images.{word_fits, words_fit, cell_fits}
 use Rattle.model.specs.Step.{State, written_by}
 use Rattle.model.proofs.Fits.{both, by_cond, is-between}
@@ -93,6 +94,7 @@ direct_forms [] = 0
 direct_forms (f ∷ fs) = f / 4 % 2 + direct_forms fs
 
 direct_allowed : (p : Parameters) (f w : ℕ) → word_fits p f w ≡ true → is_direct w ≤ f / 4 % 2
+unfolding allows
 direct_allowed p f w h =
     by_cond (λ (x : ℕ). x ≤ f / 4 % 2) (eqb (kind_of w) direct_kind) 1 0
     (λ e. omega (arith, eqb-true (f / 4 % 2) 1 (both (eqb (f / 4 % 2) 1) _ (sym (direct_word p f w (eqb-true (kind_of w) direct_kind e)) ∙ h)).0))

@@ -1,17 +1,18 @@
 // The prices of the instructions, as a table that a call makes once and lends, and the values that they write.
 #![tactic(auto)]
 
-ghost use Rattle.std.specs.Prelude.{◌≡◌, true, ◌≤◌, ◌<◌, length, get_or};
-ghost use Rattle.model.specs.Instructions.{row_of, directs, cost_of, is_direct};
+ghost use Rattle.std.specs.Prelude.{◌≡◌, true, ◌≤◌, ◌<◌, eqb, length, get_or};
+ghost use Rattle.model.specs.Instructions.{row_of, directs, cost_of};
+ghost use Rattle.model.specs.Words.{kind_of, direct_kind};
 ghost use Rattle.model.specs.Images.{cell_fits};
 ghost use Rattle.image.specs.Decode.{cell_from};
 ghost use Rattle.prices.specs.Prices.{price_table, price_count, price_of, value_count};
 
 use image::decode::Instruction;
 use image::forms::INSTRUCTIONS;
+use image::kinds::Kind;
 use image::words::kind;
 use model::Parameters;
-use model::words::DIRECT;
 
 // How many prices the table has.
 pub const ENTRIES: usize = 61;
@@ -35,21 +36,18 @@ pub fn price_table() -> [u32; ENTRIES]
     PRICES
 }
 
-// 1 for a direct cell.
-fn direct(w: u32) -> u32
-    ensures { result ≡ is_direct w }
+fn is_direct(w: u32) -> bool
+    ensures { result ≡ eqb (kind_of w) direct_kind }
 {
-    if kind(w) == DIRECT {
-        return 1;
-    }
-    0
+    kind(w) == Kind::Direct
 }
 
 // How many arguments are direct cells.
+#[tactic(auto, unfolding(model::specs::Instructions::directs))]
 fn direct_arguments(i: Instruction) -> u32
     ensures { result ≡ directs (cell_from i) }
 {
-    direct(i.first) + direct(i.second) + direct(i.third)
+    is_direct(i.first) as u32 + is_direct(i.second) as u32 + is_direct(i.third) as u32
 }
 
 // Where the price of one of the first ten stands in the table.
@@ -59,14 +57,11 @@ fn price_index(i: Instruction) -> usize
     ensures result_value { get_or price_table result 0 ≡ price_of i.number (directs (cell_from i)) }
     ensures within { result < price_count }
 {
-    let mode = direct_arguments(i);
-    if mode == 0 {
-        return (i.number - 1) as usize;
+    match direct_arguments(i) {
+        0 => (i.number - 1) as usize,
+        1 => (i.number + ONE_DIRECT) as usize,
+        _ => TWO_DIRECT,
     }
-    if mode == 1 {
-        return (i.number + ONE_DIRECT) as usize;
-    }
-    TWO_DIRECT
 }
 
 // The cost of an instruction. Beyond the first ten none has a direct argument; prices of the first four are times N, S, N and S.
@@ -77,27 +72,20 @@ pub fn cost(i: Instruction, p: Parameters, prices: &[u32]) -> u64
 {
     let number = i.number;
     if 10 < number {
-        let at = (number - 1) as usize;
-        return prices[at] as u64;
+        return prices[number as usize - 1] as u64;
     }
-    let at = price_index(i);
-    let price = prices[at] as u64;
-    if 4 < number {
-        return price;
+    let price = prices[price_index(i)] as u64;
+    match number {
+        1 | 3 => price * p.n as u64,
+        2 | 4 => price * p.s as u64,
+        _ => price,
     }
-    if number % 2 == 1 {
-        return price * (p.n as u64);
-    }
-    price * (p.s as u64)
 }
 
 // How many values an instruction writes: most often none.
 pub fn value_count(number: u32, p: Parameters) -> usize
     ensures { result ≡ value_count p (row_of number).operation }
 {
-    if 6 < number {
-        return 0;
-    }
     match number {
         3 => p.n as usize,
         4 => p.s as usize,

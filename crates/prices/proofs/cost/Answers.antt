@@ -12,38 +12,35 @@ use Rattle.prices.proofs.cost.Goals as goal
 price : (prices : List ℕ) (at number k : ℕ) → prices ≡ price_table → get_or price_table at 0 ≡ price_of number k → get_or prices at 0 ≡ price_of number k
 price prices at number k e h = rw e h
 
-pub bounds-prices-at : goal.bounds-prices-at
-bounds-prices-at c =
-    let start = c in
-    rw (start.requires.prices_value, prices-length) (omega (arith, is_number start.args.p (cell_from start.args.i) start.requires.i_value))
+pub bounds-prices-number : goal.bounds-prices-number
+bounds-prices-number c =
+    rw (c.requires.prices_value, prices-length) (omega (arith, is_number c.args.p (cell_from c.args.i) c.requires.i_value))
 
 pub returns-then-number-gt10 : goal.returns-then-number-gt10
 returns-then-number-gt10 c =
-    let start = c in
-    rw start.requires.prices_value (cost_undirected start.args.p (cell_from start.args.i) start.requires.i_value c.if-number-gt10.true)
+    rw c.requires.prices_value (cost_undirected c.args.p (cell_from c.args.i) c.requires.i_value c.if-number-gt10.true)
 
-pub price_index-at-requires : goal.price_index-at-requires
-price_index-at-requires c =
-    let start = c in
-    let cell = cell_from start.args.i in
-    record { le_number = ((is_number start.args.p cell start.requires.i_value).0, c.if-number-gt10.false); i_in_bounds = directs-priced start.args.p cell start.requires.i_value }
+pub price_index-requires-clause-le_number : goal.price_index-requires-clause-le_number
+price_index-requires-clause-le_number c =
+    ((is_number c.args.p (cell_from c.args.i) c.requires.i_value).0, c.if-number-gt10.false)
 
-pub bounds-prices-at-2 : goal.bounds-prices-at-2
-bounds-prices-at-2 c = rw (c.requires.prices_value, prices-length) c.price_index-at.ensures.within
+pub price_index-requires-clause-i_in_bounds : goal.price_index-requires-clause-i_in_bounds
+price_index-requires-clause-i_in_bounds c = directs-priced c.args.p (cell_from c.args.i) c.requires.i_value
 
-pub returns-then-number-gt4 : goal.returns-then-number-gt4
-returns-then-number-gt4 c =
-    let start = c in
-    cost_single start.args.p (cell_from start.args.i) start.requires.i_value (price _ _ _ _ c.requires.prices_value c.price_index-at.ensures.result_value) c.if-number-gt4.true
+pub bounds-prices-price_index : goal.bounds-prices-price_index
+bounds-prices-price_index c = rw (c.requires.prices_value, prices-length) c.price_index.ensures.within
 
-pub returns-then-number-eq1 : goal.returns-then-number-eq1
-returns-then-number-eq1 c =
-    let start = c in
-    cost_multiplied start.args.p (cell_from start.args.i) start.requires.i_value (price _ _ _ _ c.requires.prices_value c.price_index-at.ensures.result_value)
-    (times-registers start.args.p start.args.i.number c.if-number-gt4.false c.if-number-eq1.true)
+pub returns-in-1 : goal.returns-in-1
+returns-in-1 c =
+    cost_multiplied c.args.p (cell_from c.args.i) c.requires.i_value (price _ _ _ _ c.requires.prices_value c.price_index.ensures.result_value)
+    (times-registers c.args.p c.args.i.number (omega arith) (omega arith))
 
-pub returns : goal.returns
-returns c =
-    let start = c in
-    cost_multiplied start.args.p (cell_from start.args.i) start.requires.i_value (price _ _ _ _ c.requires.prices_value c.price_index-at.ensures.result_value)
-    (times-cells start.args.p start.args.i.number (is_number start.args.p (cell_from start.args.i) start.requires.i_value).0 c.if-number-gt4.false c.if-number-eq1.false)
+pub returns-in-2 : goal.returns-in-2
+returns-in-2 c =
+    cost_multiplied c.args.p (cell_from c.args.i) c.requires.i_value (price _ _ _ _ c.requires.prices_value c.price_index.ensures.result_value)
+    (times-cells c.args.p c.args.i.number (omega arith) (omega arith) (λ e. omega arith))
+
+pub returns-in_default : goal.returns-in_default
+returns-in_default c =
+    cost_single c.args.p (cell_from c.args.i) c.requires.i_value (price _ _ _ _ c.requires.prices_value c.price_index.ensures.result_value)
+    (grind (arith, is_number c.args.p (cell_from c.args.i) c.requires.i_value))
