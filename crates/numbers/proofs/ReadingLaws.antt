@@ -6,8 +6,6 @@ use mathlib.Core.List.{List, [], ◌∷◌}
 use mathlib.Core.Option.{Option, none, some}
 use Rattle.std.proofs.Common.{Some, None, Result, Ok, Err}
 use Rattle.std.specs.List.{list_all, position_or_len}
-use Rattle.std.specs.Option.{unwrap_or}
-use Rattle.std.proofs.lemmas.List.Sums.{prefix_len-le-length}
 use native.Mathlib.Decide.{dec_lt}
 use native.Mathlib.Numerals.{add-one, one-add}
 use native.Mathlib.Omega.{arith}
@@ -16,7 +14,7 @@ use lib.ListN.{length, get_or, drop, drop_of_length-le}
 use lib.Seq.{drop-cons}
 use lib.Signed.{mag}
 use borrow.Author.Tests.{lt-ltb, le-ltb, le-leb, lt-leb, ne_eqb, eqb-true, eqb-false}
-use lib.Dec.{eqb, ltb}
+use lib.Dec.{eqb}
 use Rattle.model.specs.Parameters.{in_range}
 use Rattle.model.specs.Arithmetic.{value, code}
 use Rattle.model.specs.Numbers.{is_digit, digits_from, natural, mapped, number}
@@ -48,20 +46,11 @@ pub natural-some : (w : List ℕ) → eqb (length w) 0 ≡ false → natural w �
 natural-some [] h = cc
 natural-some (b ∷ s) h = refl
 
--- The place that `position` finds, or the length.
-pub place-found : (test : ℕ → Bool) (w : List ℕ) →
-    unwrap_or (cond (ltb (position_or_len test w) (length w)) (Some (position_or_len test w)) None) (length w) ≡ position_or_len test w
-place-found test w = go (position_or_len test w) (prefix_len-le-length (λ b. not (test b)) w) (dec_lt (position_or_len test w) (length w))
-  where
-    go : (i : ℕ) → i ≤ length w → Dec (i < length w) → unwrap_or (cond (ltb i (length w)) (Some i) None) (length w) ≡ i
-    go i h (yes l) = simp (lt-ltb i (length w) l)
-    go i h (no g) = simp (le-ltb i (length w) (omega arith)) (omega arith)
-
-abbrev no-zero : ℕ → Bool
+abbrev pub no-zero : ℕ → Bool
 no-zero b = not (eqb b 48)
 
 -- Zeros in front.
-pub zeros-passed : (w : List ℕ) → digits_from 0 w ≡ digits_from 0 (drop (position_or_len (λ b. not (eqb b 48)) w) w)
+pub zeros-passed : (w : List ℕ) → digits_from 0 w ≡ digits_from 0 (drop (position_or_len no-zero w) w)
 unfolding digits_from
 zeros-passed [] = refl
 zeros-passed (b ∷ s) = go (eqb b 48) refl (zeros-passed s)

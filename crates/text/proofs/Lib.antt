@@ -1,3 +1,5 @@
 pub mod Among
 pub mod Parts
+pub mod Places
 pub mod Walks
+pub mod Blocks

@@ -1,61 +1,76 @@
--- Tokens, words and lines byte by byte, as the loops that find their ends meet them. Assumes nothing.
-use Prim.Native.Nat.{ℕ, zero, suc, ◌+◌, ◌-◌, ◌≤◌, ◌<◌}
-use mathlib.Core.Path.{◌≡◌, refl, sym, ap, ◌∙◌}
-use mathlib.Core.Bool.{Bool, true, false, ◌||◌}
+-- Tokens, words and lines by the places that `find_from` finds. Assumes nothing.
+use Prim.Native.Nat.{ℕ, suc, ◌+◌, ◌-◌, ◌≤◌, ◌<◌, min}
+use mathlib.Core.Path.{◌≡◌, refl, sym, ap, ◌∙◌, subst}
+use mathlib.Core.Bool.{Bool, true, false, not, ◌||◌}
 use mathlib.Core.List.{List, [], ◌∷◌, ◌++◌, append-nil}
-use native.Mathlib.Decide.{dec_lt}
-use native.Mathlib.Numerals.{add-one}
+use native.Mathlib.Numerals.{one-add}
 use native.Mathlib.Omega.{arith}
 use lib.Arith.{lt_of_le-ne}
-use lib.ListN.{length, get_or, drop, drop_of_length-le}
-use lib.Seq.{drop-cons, append_snoc}
-use borrow.Author.Tests.{ne_eqb, eq-eqb}
+use lib.ListN.{length, drop, take, drop_of_length-le, length-append, length-drop}
+use lib.Seq.{append_snoc}
+use Rattle.std.specs.List.{position_or_len}
+use Rattle.std.proofs.lemmas.List.{drop-drop, drop_min}
+use Rattle.std.proofs.lemmas.List.Folds.{length-prefix_len}
 use Rattle.model.specs.Numbers.{is_blank}
 use Rattle.model.specs.Load.{keep, is_comment, is_separator, lines_from, lines, words_from, words}
 use Rattle.model.specs.Step.{blanks_of, token_of}
 use Rattle.text.specs.Parts.{part}
-use Rattle.text.specs.Lines.{NoLineFeed}
-use Rattle.text.specs.Words.{Skipped, WordEnd, NextWord}
-use Rattle.text.specs.Tokens.{TokenEnd}
+use Rattle.text.specs.Find.{first_from}
+use Rattle.text.specs.Lines.{is_line_feed, NextLine}
+use Rattle.text.specs.Words.{NextWord}
+use Rattle.text.specs.Tokens.{NextToken}
 use Rattle.text.proofs.Among.{among-fails}
-use Rattle.text.proofs.Parts.{part_empty, part-more, part-first, part_length}
+use Rattle.text.proofs.Parts.{part-first}
+
+-- The part up to the place that is found.
+part-found : (test : ℕ → Bool) (t : List ℕ) (a b : ℕ) → b ≡ first_from test t a → part a b t ≡ take (position_or_len test (drop a t)) (drop a t)
+part-found test t a b e = let k : b - a ≡ position_or_len test (drop a t) = omega (arith, e) in ap (λ (n : ℕ). take n (drop a t)) k
+
+rest-found : (test : ℕ → Bool) (t : List ℕ) (a b : ℕ) → b ≡ first_from test t a → drop (position_or_len test (drop a t)) (drop a t) ≡ drop b t
+rest-found test t a b e = drop-drop _ a t ∙ ap (λ (n : ℕ). drop n t) (sym e)
 
 -- TOKENS
-module _ (t : List ℕ) (i : ℕ) (done : length t ≤ i) where
-  pub blanks-end : blanks_of (drop i t) ≡ 0
-  unfolding blanks_of
-  blanks-end = rw (drop_of_length-le t done)
+abbrev pub no-blank : ℕ → Bool
+no-blank b = not (is_blank b)
 
-  pub token_end : token_of (drop i t) ≡ []
-  unfolding token_of
-  token_end = rw (drop_of_length-le t done)
+blanks-counted : (s : List ℕ) → blanks_of s ≡ position_or_len no-blank s
+unfolding blanks_of
+blanks-counted [] = refl
+blanks-counted (b ∷ s) = go (is_blank b) refl (blanks-counted s)
+  where
+    go : (x : Bool) → is_blank b ≡ x → blanks_of s ≡ position_or_len no-blank s → blanks_of (b ∷ s) ≡ position_or_len no-blank (b ∷ s)
+    go true e h = simp (blanks_of, e) (omega (arith, h))
+    go false e h = simp (blanks_of, e)
 
-module _ (t : List ℕ) (i : ℕ) (inside : i < length t) where
-  pub blank : is_blank (get_or t i 0) ≡ true → blanks_of (drop i t) ≡ blanks_of (drop (i + 1) t) + 1
-  unfolding blanks_of
-  blank h = rw (add-one i, drop-cons t i 0) (simp (blanks_of, h))
+token-taken : (s : List ℕ) → token_of s ≡ take (position_or_len is_blank s) s
+unfolding token_of
+token-taken [] = refl
+token-taken (b ∷ s) = go (is_blank b) refl (token-taken s)
+  where
+    go : (x : Bool) → is_blank b ≡ x → token_of s ≡ take (position_or_len is_blank s) s → token_of (b ∷ s) ≡ take (position_or_len is_blank (b ∷ s)) (b ∷ s)
+    go true e h = simp (token_of, e)
+    go false e h = simp (token_of, e, one-add) (ap (λ (w : List ℕ). b ∷ w) h)
 
-  pub no-blank : is_blank (get_or t i 0) ≡ false → blanks_of (drop i t) ≡ 0
-  unfolding blanks_of
-  no-blank h = rw (drop-cons t i 0) (simp (blanks_of, h))
-
-  pub token-stop : is_blank (get_or t i 0) ≡ true → token_of (drop i t) ≡ []
-  unfolding token_of
-  token-stop h = rw (drop-cons t i 0) (simp (token_of, h))
-
-  pub token-more : (a : ℕ) → a ≤ i → is_blank (get_or t i 0) ≡ false →
-      part a i t ++ token_of (drop i t) ≡ part a (i + 1) t ++ token_of (drop (i + 1) t)
-  unfolding token_of
-  token-more a l h = rw (part-more a i t, append_snoc, add-one i, drop-cons t i 0) (simp (token_of, h))
-
-pub token-found : (t : List ℕ) (a i : ℕ) → a ≤ i → i ≤ length t → token_of (drop a t) ≡ part a i t ++ token_of (drop i t) → token_of (drop i t) ≡ [] →
-    TokenEnd t a i
-token-found t a i l h e n =
-    let k : token_of (drop a t) ≡ part a i t = e ∙ rw (n, append-nil) in
-    record { low = l; high = h; place = omega (arith, ap length k, part_length a i t h); token = sym k }
+pub token-found : (t : List ℕ) (p a b : ℕ) → a ≡ first_from no-blank t p → b ≡ first_from is_blank t a → b ≤ length t → NextToken t p a b
+token-found t p a b e f h =
+    let taken = token-taken (drop a t) in
+    let size = ap length taken ∙ length-prefix_len (λ b. not (is_blank b)) (drop a t) in
+    record {
+      blanks = e ∙ ap (λ (n : ℕ). p + n) (sym (blanks-counted (drop p t)));
+      ordered = omega (arith, f);
+      high = h;
+      place = omega (arith, f, size);
+      token = part-found is_blank t a b f ∙ sym taken;
+    }
 
 -- WORDS
-word-stop : (w : List ℕ) (b : ℕ) (s : List ℕ) → (is_comment b || is_separator b) ≡ true → words_from w (b ∷ s) ≡ keep w (words (b ∷ s))
+abbrev pub no-separator : ℕ → Bool
+no-separator b = not (is_separator b)
+
+abbrev pub ends-word : ℕ → Bool
+ends-word b = is_comment b || is_separator b
+
+word-stop : (w : List ℕ) (b : ℕ) (s : List ℕ) → ends-word b ≡ true → words_from w (b ∷ s) ≡ keep w (words (b ∷ s))
 unfolding words_from
 word-stop w b s h = go (is_comment b) refl h
   where
@@ -63,7 +78,7 @@ word-stop w b s h = go (is_comment b) refl h
     go true c h = simp (words_from, c)
     go false c h = simp (words_from, c, h)
 
-empty-word : (b : ℕ) (s : List ℕ) → (is_comment b || is_separator b) ≡ true → is_separator b ≡ false → words (b ∷ s) ≡ []
+empty-word : (b : ℕ) (s : List ℕ) → ends-word b ≡ true → is_separator b ≡ false → words (b ∷ s) ≡ []
 unfolding words_from
 empty-word b s h n = go (is_comment b) refl h
   where
@@ -71,7 +86,7 @@ empty-word b s h n = go (is_comment b) refl h
     go true c h = simp (words_from, c)
     go false c h = cc
 
-word_byte : (w : List ℕ) (b : ℕ) (s : List ℕ) → (is_comment b || is_separator b) ≡ false → words_from w (b ∷ s) ≡ words_from (w ++ (b ∷ [])) s
+word_byte : (w : List ℕ) (b : ℕ) (s : List ℕ) → ends-word b ≡ false → words_from w (b ∷ s) ≡ words_from (w ++ (b ∷ [])) s
 unfolding words_from
 word_byte w b s h = go (is_comment b) refl h
   where
@@ -83,32 +98,66 @@ separator : (b : ℕ) (s : List ℕ) → is_separator b ≡ true → words (b �
 unfolding words_from
 separator b s h = simp (words_from, among-fails is_comment (9 ∷ 13 ∷ 32 ∷ 44 ∷ []) b (refl, (refl, (refl, (refl, tt)))) h, h)
 
-no_words : (l : List ℕ) (i : ℕ) → length l ≤ i → words (drop i l) ≡ []
+-- The words behind the separators in front.
+separators-passed : (s : List ℕ) → words s ≡ words (drop (position_or_len no-separator s) s)
+separators-passed [] = refl
+separators-passed (b ∷ s) = go (is_separator b) refl (separators-passed s)
+  where
+    go : (x : Bool) → is_separator b ≡ x → words s ≡ words (drop (position_or_len no-separator s) s) →
+        words (b ∷ s) ≡ words (drop (position_or_len no-separator (b ∷ s)) (b ∷ s))
+    go true e h = separator b s e ∙ simp (e, one-add) h
+    go false e h = simp e
+
+-- The first byte of a list, if there is one, is no separator.
+abbrev Stops : List ℕ → Type 0
+Stops [] = Unit {0}
+Stops (b ∷ s) = is_separator b ≡ false
+
+separators-stop : (s : List ℕ) → Stops (drop (position_or_len no-separator s) s)
+separators-stop [] = tt
+separators-stop (b ∷ s) = go (is_separator b) refl (separators-stop s)
+  where
+    go : (x : Bool) → is_separator b ≡ x → Stops (drop (position_or_len no-separator s) s) → Stops (drop (position_or_len no-separator (b ∷ s)) (b ∷ s))
+    go true e h = simp (e, one-add) h
+    go false e h = simp e
+
+-- A word up to the byte that ends it.
+word-taken : (s w : List ℕ) → words_from w s ≡ keep (w ++ take (position_or_len ends-word s) s) (words (drop (position_or_len ends-word s) s))
 unfolding words_from
-no_words l i h = rw (drop_of_length-le l h)
-
-pub last_word : (w l : List ℕ) (i : ℕ) → length l ≤ i → words_from w (drop i l) ≡ keep w (words (drop i l))
-unfolding words_from
-last_word w l i h = rw (drop_of_length-le l h)
-
-module _ (l : List ℕ) (i : ℕ) (inside : i < length l) where
-  pub skip-separator : is_separator (get_or l i 0) ≡ true → words (drop i l) ≡ words (drop (i + 1) l)
-  skip-separator h = rw (add-one i, drop-cons l i 0) (separator (get_or l i 0) (drop (suc i) l) h)
-
-  pub word-ends : (w : List ℕ) → (is_comment (get_or l i 0) || is_separator (get_or l i 0)) ≡ true → words_from w (drop i l) ≡ keep w (words (drop i l))
-  word-ends w h = rw (drop-cons l i 0) (word-stop w (get_or l i 0) (drop (suc i) l) h)
-
-  pub word_more : (a : ℕ) → a ≤ i → (is_comment (get_or l i 0) || is_separator (get_or l i 0)) ≡ false →
-      words_from (part a i l) (drop i l) ≡ words_from (part a (i + 1) l) (drop (i + 1) l)
-  word_more a k h = rw (part-more a i l, add-one i, drop-cons l i 0) (word_byte (part a i l) (get_or l i 0) (drop (suc i) l) h)
+word-taken [] w = rw (append-nil w)
+word-taken (b ∷ s) w = go (ends-word b) refl (word-taken s (w ++ (b ∷ [])))
+  where
+    go : (x : Bool) → ends-word b ≡ x →
+        words_from (w ++ (b ∷ [])) s ≡ keep ((w ++ (b ∷ [])) ++ take (position_or_len ends-word s) s) (words (drop (position_or_len ends-word s) s)) →
+        words_from w (b ∷ s) ≡ keep (w ++ take (position_or_len ends-word (b ∷ s)) (b ∷ s)) (words (drop (position_or_len ends-word (b ∷ s)) (b ∷ s)))
+    go true e h = word-stop w b s e ∙ simp (e, append-nil)
+    go false e h = word_byte w b s e ∙ simp (e, one-add) (h ∙ simp append_snoc)
 
 -- A word that is empty stands where no more come.
-pub no_word : {l : List ℕ} {p a b : ℕ} → Skipped l p a → WordEnd l a b → a ≡ b → words (drop p l) ≡ []
-no_word {l} {p} {a} {b} s e q = s.same ∙ go (dec_lt a (length l))
+no-word : (s : List ℕ) → Stops s → position_or_len ends-word s ≡ 0 → words s ≡ []
+unfolding words_from
+no-word [] h e = refl
+no-word (b ∷ s) h e = go (ends-word b) refl
   where
-    go : Dec (a < length l) → words (drop a l) ≡ []
-    go (yes h) = rw (drop-cons l a 0) (empty-word (get_or l a 0) (drop (suc a) l) (rw q (e.stop (omega arith))) (s.stop h))
-    go (no g) = no_words l a (omega arith)
+    go : (x : Bool) → ends-word b ≡ x → words (b ∷ s) ≡ []
+    go true k = empty-word b s k h
+    go false k = let z : 1 + position_or_len ends-word s ≡ 0 = simp k at e in absurd (omega arith)
+
+pub word-found : (l : List ℕ) (p a b : ℕ) → a ≡ first_from no-separator l p → b ≡ first_from ends-word l a → b ≤ length l → NextWord l p a b
+word-found l p a b e f h =
+    let skipped : words (drop p l) ≡ words (drop a l) = separators-passed (drop p l) ∙ ap words (rest-found no-separator l p a e) in
+    let stops : Stops (drop a l) = subst Stops (rest-found no-separator l p a e) (separators-stop (drop p l)) in
+    record {
+      low = omega (arith, e);
+      ordered = omega (arith, f);
+      high = h;
+      same =
+          skipped
+          ∙ word-taken (drop a l) []
+          ∙ ap (λ (w : List ℕ). keep w (words (drop (position_or_len ends-word (drop a l)) (drop a l)))) (sym (part-found ends-word l a b f))
+          ∙ ap (λ (s : List ℕ). keep (part a b l) (words s)) (rest-found ends-word l a b f);
+      none = λ q. skipped ∙ no-word (drop a l) stops (omega (arith, f, q));
+    }
 
 -- The next word, where there is one, is the first of the words.
 pub first_word : {l : List ℕ} {p a b : ℕ} → NextWord l p a b → ¬ (a ≡ b) → words (drop p l) ≡ part a b l ∷ words (drop b l)
@@ -119,49 +168,38 @@ pub no_lines : (t : List ℕ) (i : ℕ) → length t ≤ i → lines (drop i t) 
 unfolding lines_from
 no_lines t i h = rw (drop_of_length-le t h)
 
--- The text ends in a line that no LF ends.
-pub last_line : (t : List ℕ) (p i : ℕ) → p < i → i ≡ length t → lines_from (part p i t) (drop i t) ≡ part p i t ∷ lines (drop i t)
+keep-some : (w : List ℕ) (ws : List (List ℕ)) → 0 < length w → keep w ws ≡ w ∷ ws
+keep-some [] ws h = absurd (omega arith)
+keep-some (b ∷ w) ws h = refl
+
+-- A line up to the LF that ends it, or the text's end.
+line-taken : (s w : List ℕ) → 0 < length w + length s →
+    lines_from w s ≡ (w ++ take (position_or_len is_line_feed s) s) ∷ lines (drop (suc (position_or_len is_line_feed s)) s)
 unfolding lines_from
-last_line t p i h e = rw (drop_of_length-le t {i = i} (omega arith), part-first p i t h (omega arith))
-
-module _ (t : List ℕ) (i : ℕ) (inside : i < length t) where
-  pub line-ends : (w : List ℕ) → get_or t i 0 ≡ 10 → lines_from w (drop i t) ≡ w ∷ lines (drop (i + 1) t)
-  unfolding lines_from
-  line-ends w e = rw (add-one i, drop-cons t i 0) (simp (lines_from, eq-eqb _ _ e))
-
-  pub line-more : (p : ℕ) → p ≤ i → ¬ (get_or t i 0 ≡ 10) → lines_from (part p i t) (drop i t) ≡ lines_from (part p (i + 1) t) (drop (i + 1) t)
-  unfolding lines_from
-  line-more p l e = rw (part-more p i t, add-one i, drop-cons t i 0) (simp (lines_from, ne_eqb _ _ e))
-
--- Bytes without LF belong to the line.
-pub line-goes-on : (t : List ℕ) (p i k : ℕ) → p ≤ i → i + k ≤ length t → NoLineFeed t i (i + k) →
-    lines_from (part p i t) (drop i t) ≡ lines_from (part p (i + k) t) (drop (i + k) t)
-line-goes-on t p i zero l h n = let e : i ≡ i + 0 = omega arith in ap (λ (m : ℕ). lines_from (part p m t) (drop m t)) e
-line-goes-on t p i (suc k) l h n =
-    let e : i + 1 + k ≡ i + suc k = omega arith in
-    line-more t i (omega arith) p l (n i (omega arith) (omega arith))
-    ∙ line-goes-on t p (i + 1) k (omega arith) (omega arith) (λ j a b. n j (omega arith) (omega arith))
-    ∙ ap (λ (m : ℕ). lines_from (part p m t) (drop m t)) e
-
--- From the line's start on.
-pub line-begins : (t : List ℕ) (p i : ℕ) → p ≤ i → i ≤ length t → NoLineFeed t p i → lines (drop p t) ≡ lines_from (part p i t) (drop i t)
-line-begins t p i l h n =
-    let e : p + (i - p) ≡ i = omega arith in
-    ap (λ (w : List ℕ). lines_from w (drop p t)) (sym (part_empty p t))
-    ∙ line-goes-on t p p (i - p) (omega arith) (omega arith) (λ j a b. n j a (omega arith))
-    ∙ ap (λ (m : ℕ). lines_from (part p m t) (drop m t)) e
-
--- One byte more, or a block more.
-pub feeds-more : (t : List ℕ) (a b c : ℕ) → NoLineFeed t a b → NoLineFeed t b c → NoLineFeed t a c
-feeds-more t a b c n m j l h = go (dec_lt j b)
+line-taken [] w h = rw (append-nil w) (keep-some w [] (omega arith))
+line-taken (b ∷ s) w h = go (is_line_feed b) refl (line-taken s (w ++ (b ∷ [])) (omega (arith, length-append w (b ∷ []))))
   where
-    go : Dec (j < b) → ¬ (get_or t j 0 ≡ 10)
-    go (yes q) = n j l q
-    go (no q) = m j (omega arith) h
+    go : (x : Bool) → is_line_feed b ≡ x →
+        lines_from (w ++ (b ∷ [])) s ≡ ((w ++ (b ∷ [])) ++ take (position_or_len is_line_feed s) s) ∷ lines (drop (suc (position_or_len is_line_feed s)) s) →
+        lines_from w (b ∷ s) ≡ (w ++ take (position_or_len is_line_feed (b ∷ s)) (b ∷ s)) ∷ lines (drop (suc (position_or_len is_line_feed (b ∷ s))) (b ∷ s))
+    go true e k = simp (lines_from, e, append-nil)
+    go false e k = simp (lines_from, e, one-add) (k ∙ simp append_snoc)
 
-pub feed-next : (t : List ℕ) (a b : ℕ) → NoLineFeed t a b → ¬ (get_or t b 0 ≡ 10) → NoLineFeed t a (b + 1)
-feed-next t a b n h j l q = go (dec_lt j b)
-  where
-    go : Dec (j < b) → ¬ (get_or t j 0 ≡ 10)
-    go (yes z) = n j l z
-    go (no z) = let e : j ≡ b = omega arith in λ x. h (ap (λ (k : ℕ). get_or t k 0) (sym e) ∙ x)
+pub line-found : (t : List ℕ) (p end next : ℕ) → p < length t → end ≡ first_from is_line_feed t p → end ≤ length t → next ≡ min (length t) (end + 1) →
+    NextLine t p end next
+line-found t p end next l e h n =
+    let k : ℕ = position_or_len is_line_feed (drop p t) in
+    let one : p + suc k ≡ end + 1 = omega (arith, e) in
+    let least : min (end + 1) (length t) ≡ next = omega (arith, n) in
+    let behind : drop (suc k) (drop p t) ≡ drop next t =
+    drop-drop (suc k) p t ∙ ap (λ (i : ℕ). drop i t) one ∙ sym (drop_min (end + 1) t) ∙ ap (λ (i : ℕ). drop i t) least in
+    record {
+      low = omega (arith, e);
+      high = h;
+      more = omega (arith, e, n);
+      within = omega (arith, n);
+      same =
+          line-taken (drop p t) [] (omega (arith, length-drop p t))
+          ∙ ap (λ (w : List ℕ). w ∷ lines (drop (suc k) (drop p t))) (sym (part-found is_line_feed t p end e))
+          ∙ ap (λ (s : List ℕ). part p end t ∷ lines s) behind;
+    }

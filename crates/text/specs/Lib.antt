@@ -1,4 +1,5 @@
 pub mod Parts
+pub mod Find
 pub mod Lines
 pub mod Words
 pub mod Tokens

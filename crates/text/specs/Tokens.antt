@@ -3,13 +3,6 @@ use Rattle.std.specs.Prelude.{ℕ, ◌+◌, ◌≤◌, ◌≡◌, List, length, 
 use Rattle.model.specs.Step.{blanks_of, token_of}
 use Rattle.text.specs.Parts.{part}
 
--- The token that starts at a is the part up to r.
-pub record TokenEnd (t : List ℕ) (a r : ℕ) : Type 0 where
-  pub low : a ≤ r
-  pub high : r ≤ length t
-  pub place : r ≡ a + length (token_of (drop a t))
-  pub token : part a r t ≡ token_of (drop a t)
-
 -- The blanks from p on end at `start`, and the token behind them is the part up to `end`.
 pub record NextToken (t : List ℕ) (p start end : ℕ) : Type 0 where
   pub blanks : start ≡ p + blanks_of (drop p t)

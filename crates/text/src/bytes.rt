@@ -7,48 +7,33 @@ ghost use Rattle.model.specs.Load.{is_separator, is_comment};
 pub fn is_blank(b: u8) -> bool
     ensures { result ≡ is_blank b }
 {
-    if b' ' < b {
-        return false;
-    }
-    match b {
-        b' ' | b'\t' | b'\r' | b'\n' => true,
-        _ => false,
-    }
+    b <= b' ' && matches!(b, b' ' | b'\t' | b'\r' | b'\n')
 }
 
 // Space, tab, CR and comma: what stands between the words of a line.
 pub fn is_separator(b: u8) -> bool
     ensures { result ≡ is_separator b }
 {
-    match b {
-        b' ' | b'\t' | b'\r' | b',' => true,
-        _ => false,
-    }
+    matches!(b, b' ' | b'\t' | b'\r' | b',')
 }
 
 // `/`, `#` and `;`: what begins a comment.
 pub fn is_comment(b: u8) -> bool
     ensures { result ≡ is_comment b }
 {
-    match b {
-        b'/' | b'#' | b';' => true,
-        _ => false,
-    }
+    matches!(b, b'/' | b'#' | b';')
 }
 
 // 0 to 9.
 pub fn is_digit(b: u8) -> bool
     ensures { result ≡ is_digit b }
 {
-    b'0' <= b && b <= b'9'
+    b.is_ascii_digit()
 }
 
 // a to z as A to Z.
 pub fn upper(b: u8) -> u8
     ensures { result ≡ upper b }
 {
-    match b {
-        b'a'..=b'z' => b - 32,
-        _ => b,
-    }
+    b.to_ascii_uppercase()
 }

@@ -2,6 +2,7 @@
 #![tactic(auto)]
 
 pub mod bytes;
+mod find;
 pub mod lines;
 pub mod tokens;
 pub mod words;

@@ -1,7 +1,14 @@
 // The lines of a text.
-ghost use Rattle.std.specs.Prelude.{◌≡◌, true, ◌&&◌, ◌+◌, ◌≤◌, ◌<◌, length};
+ghost use Rattle.std.specs.Prelude.{◌≡◌, not, ◌≤◌, ◌<◌, length};
+ghost use Rattle.std.specs.List.{list_all};
 ghost use Rattle.model.specs.Load.{lines};
-ghost use Rattle.text.specs.Lines.{NoLineFeed, NextLine};
+ghost use Rattle.text.specs.Find.{first_from};
+ghost use Rattle.text.specs.Lines.{is_line_feed, NextLine};
+
+use super::find::find_from;
+
+// The bytes that are looked at together for an LF.
+const BLOCK: usize = 8;
 
 // Where a line ends, and where the next one starts.
 #[derive(Clone, Copy)]
@@ -10,43 +17,24 @@ pub struct Line {
     pub next: usize,
 }
 
-// Both hold.
-fn both(a: bool, b: bool) -> bool
-    ensures { result ≡ (a && b) }
+// Whether no LF is among the bytes. No test ends the fold, so that the compiler tests a block's bytes at once.
+fn has_no_line_feed(bytes: &[u8]) -> bool
+    ensures { result ≡ list_all (λ b. not (is_line_feed b)) bytes.now }
 {
-    if a {
-        return b;
-    }
-    false
+    bytes.iter().fold(true, |inside, &b| inside & (b != b'\n'))
 }
 
-// Whether no LF is among the eight bytes from i on. No test ends the loop, so that the compiler tests them at once.
-fn is_inside(t: &[u8], i: usize) -> bool
-    requires { i + 8 ≤ length t.now }
-    ensures { result ≡ true → NoLineFeed t.now i (i + 8) }
-{
-    let mut inside = true;
-    let mut j = i;
-    while j < i + 8 {
-        inside = both(inside, t[j] != b'\n');
-        j += 1;
-    }
-    inside
-}
-
-// Past blocks of eight bytes that belong to the line that starts at p.
+// Past blocks that belong to the line that starts at p.
 fn skip_blocks(t: &[u8], p: usize) -> usize
     requires { p ≤ length t.now }
-    ensures { (p ≤ result) × (result ≤ length t.now) × NoLineFeed t.now p result }
+    ensures bound { result ≤ length t.now }
+    ensures same { first_from is_line_feed t.now result ≡ first_from is_line_feed t.now p }
 {
-    let mut i = p;
-    while 8 <= t.len() - i {
-        if !is_inside(t, i) {
-            return i;
-        }
-        i += 8;
-    }
-    i
+    let rest = &t[p..];
+    let blocks = rest
+        .chunks_exact(BLOCK)
+        .position(|block| !has_no_line_feed(block));
+    p + BLOCK * blocks.unwrap_or(rest.len() / BLOCK)
 }
 
 // The line that starts at p.
@@ -54,17 +42,11 @@ pub fn next_line(t: &[u8], p: usize) -> Line
     requires { p < length t.now }
     ensures { NextLine t.now p result.end result.next }
 {
-    let mut i = skip_blocks(t, p);
-    while i < t.len() {
-        if t[i] == b'\n' {
-            return Line {
-                end: i,
-                next: i + 1,
-            };
-        }
-        i += 1;
+    let end = find_from(t, skip_blocks(t, p), |b| b == b'\n');
+    Line {
+        end,
+        next: t.len().min(end + 1),
     }
-    Line { end: i, next: i }
 }
 
 // The count of lines.

@@ -1,8 +1,6 @@
 -- `reading::skip_zeros` meets its contract: the digits behind the zeros come to the same value. Assumes nothing.
-use Rattle.std.proofs.Common.{◌≡◌, ◌∙◌, ap, sym, rules, ℕ, Bool, Option}
+use Rattle.std.proofs.Common.{◌≡◌, ◌∙◌, ap, sym, rules, ℕ, Option}
 use borrow.Author.Tests.{tests}
-use mathlib.Core.Bool.{not}
-use lib.Dec.{eqb}
 use lib.ListN.{length, drop}
 use Rattle.std.specs.List.{position, position_or_len}
 use Rattle.std.specs.Option.{unwrap_or}
@@ -10,14 +8,11 @@ use Rattle.std.proofs.lemmas.List.{take_rest}
 use Rattle.std.proofs.lemmas.Iterator.{YieldsList-from_slice}
 use Rattle.std.proofs.lemmas.Iterator.Search.{position_from_yields_List}
 use Rattle.model.specs.Numbers.{digits_from}
-use Rattle.numbers.proofs.ReadingLaws.{zeros-passed, place-found}
+use Rattle.text.proofs.Places.{place-found}
+use Rattle.numbers.proofs.ReadingLaws.{no-zero, zeros-passed}
 use Rattle.numbers.proofs.reading.skip_zeros.Goals as goal
 
-no-zero : ℕ → Bool
-no-zero b = not (eqb b 48)
-
 pub returns : goal.returns
-unfolding no-zero
 returns c =
     let w = c.args.w.now in
     let found : c.position.result ≡ position no-zero w = position_from_yields_List no-zero _ _ c.position.result c.position.ensures.ran (YieldsList-from_slice w cc) (λ x b q k. search (rules, tests)) in
