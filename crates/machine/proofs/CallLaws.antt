@@ -1,8 +1,8 @@
 -- What start and grant hand back, by their checks and by the run. Assumes nothing.
-use Prim.Native.Nat.{ℕ, zero, suc, ◌+◌, ◌-◌}
+use Prim.Native.Nat.{ℕ, ◌+◌, ◌-◌}
 use mathlib.Core.Bool.{cond}
 use mathlib.Core.List.{List, []}
-use mathlib.Core.Path.{◌≡◌, refl, sym, ap, ◌∙◌}
+use mathlib.Core.Path.{◌≡◌, sym, ap, ◌∙◌}
 use native.Mathlib.Omega.{arith}
 use lib.Dec.{eqb}
 use lib.IntN.{ℤ, pos}
@@ -11,12 +11,17 @@ use Rattle.model.proofs.Endings.{grant-word}
 use Rattle.model.proofs.Fits.{start-accepted, GrantFits, grant-accepted}
 use Rattle.model.proofs.GrantKeeps.{AccountSound, record-sound, started-accepted}
 use Rattle.model.proofs.Lists as lists
-use Rattle.model.proofs.Refusals.{start-refused, grant-refused, grant-number}
-use Rattle.model.specs.Calls.{Held, as_started, held_after, environment_for, fresh_record, zero_record, start_checks, account_of, record_of, Granted, granted, granted_by, grant_refusal, outcome_number, outcome_word, stop_word}
+use Rattle.model.proofs.Refusals.{grant-number}
+use Rattle.model.proofs.Replies.{start-answered, grant-answered}
+use Rattle.model.specs.Calls.{Held, held_after, environment_for, fresh_record, start_checks, account_of, record_of, Granted, granted, granted_by, grant_refusal, outcome_number, outcome_word, stop_word}
 use Rattle.model.specs.Grants.{Call, Account, accept, hand_back}
 use Rattle.model.specs.Parameters.{refusal_of, limit}
+use Rattle.model.specs.Replies.{number_of, start_answer, as_started, grant_answer}
 use Rattle.model.specs.Step.{Environment, Memory, State, Tak}
-use Rattle.model.specs.Grants.{Refused, Stopped}
+use Rattle.model.specs.declared.AcceptedGrant.{AcceptedGrant}
+use Rattle.model.specs.declared.Refusal.{Refusal}
+use Rattle.std.specs.Prelude.{Result as Answer, Ok, IsErr, IsErrAnd}
+use Rattle.model.specs.Grants.{Stopped}
 use Rattle.model.specs.declared.Record.{Record}
 use Rattle.engine.specs.Runs.{Runnable, stop_at, RunIs}
 use Rattle.engine.specs.declared.Ran.{Ran}
@@ -27,16 +32,15 @@ use Rattle.machine.specs.CallContracts.{StartIs, GrantIs}
 
 -- START
 module _ (e : Environment) (m : Memory) where
-  pub start-refuses : (k : ℕ) → k ≡ refusal_of (start_checks e m) → ¬ (k ≡ 0) →
-      StartIs e m (record { reply = record { refusal = k; rec = zero_record }; memory = m })
-  start-refuses zero h n = absurd (n refl)
-  start-refuses (suc k) h n = record { given = sym (start-refused e m k (sym h)) }
+  pub start-refuses : (r : Answer Record Refusal) (x : Refusal) → IsErr r × IsErrAnd r (λ y. y ≡ x) → number_of x ≡ refusal_of (start_checks e m) →
+      StartIs e m (record { reply = start_answer r; memory = m })
+  start-refuses r x h q = record { given = start-answered e m r x h q }
 
-  pub start-accepts : (k : ℕ) → k ≡ refusal_of (start_checks e m) → k ≡ 0 → {registers' cells' : List ℤ} →
+  pub start-accepts : 0 ≡ refusal_of (start_checks e m) → {registers' cells' : List ℤ} →
       registers' ≡ replicate (length m.registers) (pos 0) → cells' ≡ replicate (length m.cells) (pos 0) →
-      StartIs e m (as_started (record { refusal = 0; rec = fresh_record e.parameters }) registers' cells')
-  start-accepts k q z r c =
-      let h = sym q ∙ z in
+      StartIs e m (as_started (Ok (fresh_record e.parameters)) registers' cells')
+  start-accepts q r c =
+      let h = sym q in
       let sized = (start-accepted e m h).sized in
       record { given = rw (r, c, sized.register-count, sized.cell-count) (sym (started-accepted e m h)) }
 
@@ -60,16 +64,14 @@ module _ (lent : Environment) (held : Held) (c : Call) where
         word = ap (λ (g : Granted). outcome_word g.reply.outcome) q ∙ grant-word lent held c ∙ ap word_given (sym q);
       }
 
-  pub grant-refuses : (k : ℕ) → k ≡ grant_refusal e account c → ¬ (k ≡ 0) →
-      GrantIs lent held c
-      (record { reply = record { outcome = Refused k; rec = held.rec; values = 0; cycles = 0 }; memory = held.memory; slice = c.slice })
-  grant-refuses zero h n = absurd (n refl)
-  grant-refuses (suc k) h n = promised (sym (grant-refused lent held c k (sym h)))
+  pub grant-refuses : (r : Answer AcceptedGrant Refusal) (x : Refusal) → IsErr r × IsErrAnd r (λ y. y ≡ x) → number_of x ≡ grant_refusal e account c →
+      GrantIs lent held c (record { reply = grant_answer held.rec r; memory = held.memory; slice = c.slice })
+  grant-refuses r x h q = promised (grant-answered lent held c r x h q)
 
   -- What passed checks say.
-  module _ {k : ℕ} (h : k ≡ grant_refusal e account c) (z : k ≡ 0) where
+  module _ (passed : 0 ≡ grant_refusal e account c) where
     pub fits : GrantFits e account c
-    fits = grant-accepted e account c (sym h ∙ z)
+    fits = grant-accepted e account c (sym passed)
 
     pub sound : AccountSound e account
     sound = record-sound e account fits.record-fits fits.start.sized
@@ -98,7 +100,7 @@ module _ (lent : Environment) (held : Held) (c : Call) where
       -- Where the run stops is what the definition hands back.
       handed-back : granted_by e.parameters (hand_back account c (stop_at e start before total held.memory c.slice)) ≡ granted lent held c
       unfolding granted accept
-      handed-back = rw (lists.grant-accepted (Tak e) (grant_refusal e) account c (sym h ∙ z), at-start)
+      handed-back = rw (lists.grant-accepted (Tak e) (grant_refusal e) account c (sym passed), at-start)
 
       module _ {r : Ran} {memory' : Memory} {out' : List ℤ} (ran : RunIs e start before total held.memory c.slice r memory' out') where
         abbrev record_at : State → (spent : ℕ) → Record

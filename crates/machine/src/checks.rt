@@ -2,63 +2,51 @@
 ghost use Rattle.std.specs.Prelude.{◌≡◌, ◌&&◌, List, [], ℕ, ◌≤◌, ℤ};
 ghost use Rattle.model.specs.Parameters.{refusal_of, Fit, max_granted};
 ghost use Rattle.model.specs.Calls.{as_held, as_call, shape_checks, memory_fits, start_checks, all_in_range, record_fits, grant_refusal, account_of};
+ghost use Rattle.model.specs.Replies.{refusal_number};
 ghost use Rattle.bounds.specs.Bounds.{IsLimit};
 ghost use Rattle.model.specs.Step.{as_memory, environment_of};
 ghost use Rattle.machine.specs.Checks.{head_fits, fields_fit, cycles_fit};
 
-use bounds::limits::{limit_of, parameter_refusal};
+use bounds::limits::{check_parameters, limit_of};
 use bounds::ranges::in_range;
 use image::check::image_fits;
-use model::{Parameters, Record};
+use model::{Parameters, Record, Refusal};
 
-// 1 to 6: the parameters, and the length of the image slice; 0 if there is no refusal.
-fn shape_refusal(p: Parameters, image: &[u32]) -> u32
-    ensures { result ≡ refusal_of (shape_checks p image.now) }
+// 1 to 6: the parameters, and the length of the image slice.
+fn check_shape(p: Parameters, image: &[u32]) -> Result<(), Refusal>
+    ensures { refusal_number result ≡ refusal_of (shape_checks p image.now) }
 {
-    let refusal = parameter_refusal(p);
-    if refusal != 0 {
-        return refusal;
-    }
+    check_parameters(p)?;
     if image.len() != 4 * (p.t as usize) {
-        return 6;
+        return Err(Refusal::ImageLength);
     }
-    0
+    Ok(())
 }
 
 // Not 9: the lengths of registers and data cells are the parameters'.
 fn memory_fits(p: Parameters, registers: &[i32], cells: &[i32]) -> bool
     ensures { result ≡ memory_fits p (as_memory registers.now cells.now) }
 {
-    if registers.len() != p.n as usize {
-        return false;
-    }
-    cells.len() == p.s as usize
+    registers.len() == p.n as usize && cells.len() == p.s as usize
 }
 
-// Start's refusal: 1 to 6, 9 and 10, in that order; 0 if there is none.
-pub fn start_refusal(p: Parameters, image: &[u32], registers: &[i32], cells: &[i32]) -> u32
-    ensures { result ≡ refusal_of (start_checks (environment_of p image.now []) (as_memory registers.now cells.now)) }
+// Start's checks: 1 to 6, 9 and 10, in that order.
+pub fn check_start(
+    p: Parameters,
+    image: &[u32],
+    registers: &[i32],
+    cells: &[i32],
+) -> Result<(), Refusal>
+    ensures { refusal_number result ≡ refusal_of (start_checks (environment_of p image.now []) (as_memory registers.now cells.now)) }
 {
-    let refusal = shape_refusal(p, image);
-    if refusal != 0 {
-        return refusal;
-    }
+    check_shape(p, image)?;
     if !memory_fits(p, registers, cells) {
-        return 9;
+        return Err(Refusal::MemoryLength);
     }
     if !image_fits(p, image) {
-        return 10;
+        return Err(Refusal::Image);
     }
-    0
-}
-
-fn both(a: bool, b: bool) -> bool
-    ensures { result ≡ (a && b) }
-{
-    if a {
-        return b;
-    }
-    false
+    Ok(())
 }
 
 // Each value is in -M..M-1. No test ends the loop, so that several are made at once.
@@ -67,10 +55,8 @@ fn values_fit(m: u32, values: &[i32]) -> bool
     ensures { result ≡ all_in_range m values.now }
 {
     let mut fit = true;
-    let mut i = 0;
-    while i < values.len() {
-        fit = both(fit, in_range(m, values[i]));
-        i += 1;
+    for value in values {
+        fit = fit & in_range(m, *value);
     }
     fit
 }
@@ -79,10 +65,7 @@ fn values_fit(m: u32, values: &[i32]) -> bool
 fn head_fits(b: u32, s: u32, shr: i64) -> bool
     ensures { result ≡ head_fits b s shr }
 {
-    if (b as i64) - 1 <= shr {
-        return shr <= (s as i64) - 1;
-    }
-    false
+    (b as i64) - 1 <= shr && shr <= (s as i64) - 1
 }
 
 // The numbers of a record, with an input of this length.
@@ -127,37 +110,30 @@ fn cycles_fit(granted: u64, cycles: u64) -> bool
     requires { granted ≤ max_granted }
     ensures { result ≡ cycles_fit granted cycles }
 {
-    if cycles <= Record::MAX_GRANT {
-        return granted + cycles <= Record::MAX_GRANTED;
-    }
-    false
+    cycles <= Record::MAX_GRANT && granted + cycles <= Record::MAX_GRANTED
 }
 
-// Grant's refusal: start's, then 15, 16 and 17; 0 if there is none, whatever the output slice is.
-pub fn grant_refusal(
+// Grant's checks: start's, then 15, 16 and 17, whatever the output slice is.
+pub fn check_grant(
     rec: Record,
     image: &[u32],
     input: &[u8],
     cycles: u64,
     registers: &[i32],
     cells: &[i32],
-) -> u32
-    ensures { (slice : List ℤ) → result ≡ grant_refusal (environment_of rec.parameters image.now input.now)
+) -> Result<(), Refusal>
+    ensures { (slice : List ℤ) → refusal_number result ≡ grant_refusal (environment_of rec.parameters image.now input.now)
         (account_of (as_held rec registers.now cells.now)) (as_call cycles slice) }
 {
-    let p = rec.parameters;
-    let refusal = start_refusal(p, image, registers, cells);
-    if refusal != 0 {
-        return refusal;
-    }
+    check_start(rec.parameters, image, registers, cells)?;
     if !record_fits(rec, input, registers, cells) {
-        return 15;
+        return Err(Refusal::Record);
     }
     if Record::MAX_INPUT < input.len() {
-        return 16;
+        return Err(Refusal::InputLength);
     }
     if !cycles_fit(rec.granted, cycles) {
-        return 17;
+        return Err(Refusal::Cycles);
     }
-    0
+    Ok(())
 }

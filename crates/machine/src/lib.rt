@@ -5,59 +5,34 @@ pub mod checks;
 
 ghost use Rattle.std.specs.Prelude.{◌≡◌, true, [], ◌≤◌, pos, ◌-ℤ◌};
 ghost use Rattle.std.specs.Int.Signed.{le_z};
-ghost use Rattle.model.specs.Calls.{as_held, as_call, as_started, as_granted, zero_record, account_of, record_of};
+ghost use Rattle.model.specs.Calls.{as_held, as_call, account_of, record_of};
+ghost use Rattle.model.specs.Replies.{as_started, as_granted};
 ghost use Rattle.model.specs.Parameters.{max_cells, max_instructions};
 ghost use Rattle.model.specs.Step.{Memory, as_memory, environment_of};
 ghost use Rattle.operands.specs.Cores.{state_in};
 ghost use Rattle.machine.specs.CallContracts.{StartIs, GrantIs};
 
-use crate::checks::{grant_refusal, start_refusal};
+use crate::checks::{check_grant, check_start};
 use bounds::limits::limit_of;
-use effects::clear;
 use engine::run;
-use model::{GrantReply, Outcome, Parameters, Record, StartReply};
+use model::{AcceptedGrant, Parameters, Record, Refusal};
 use operands::Core;
 use prices::price_table;
 
-// The record of zeros, of a refused start.
-fn zero_record() -> Record
-    ensures { result ≡ zero_record }
-{
-    Record {
-        parameters: Parameters {
-            k: 0,
-            n: 0,
-            s: 0,
-            b: 0,
-            t: 0,
-        },
-        iar: 0,
-        ircr: 0,
-        shr: 0,
-        place: 0,
-        granted: 0,
-        spent: 0,
-    }
-}
-
-// Start: the fresh record, with registers and data cells zeroed; or the number of the refusal, with a record of zeros.
-pub fn start(p: Parameters, image: &[u32], registers: &mut [i32], cells: &mut [i32]) -> StartReply
+// Start: the fresh record, with registers and data cells zeroed.
+pub fn start(
+    p: Parameters,
+    image: &[u32],
+    registers: &mut [i32],
+    cells: &mut [i32],
+) -> Result<Record, Refusal>
     ensures { StartIs (environment_of p image.now []) (as_memory registers.old cells.old)
         (as_started result registers.new cells.new) }
 {
-    let refusal = start_refusal(p, image, registers, cells);
-    if refusal != 0 {
-        return StartReply {
-            refusal,
-            rec: zero_record(),
-        };
-    }
-    clear(registers);
-    clear(cells);
-    StartReply {
-        refusal: 0,
-        rec: Record::fresh(p),
-    }
+    check_start(p, image, registers, cells)?;
+    registers.fill(0);
+    cells.fill(0);
+    Ok(Record::fresh(p))
 }
 
 // Where the machine of a record stands.
@@ -89,7 +64,7 @@ fn record_of(p: Parameters, at: Core, granted: u64, spent: u64) -> Record
     }
 }
 
-// Grant: the ending, the record, the number of values written and the cycles spent in this call; or the number of the refusal, with the record as given.
+// Grant: the ending, the record, the number of values written and the cycles spent in this call.
 pub fn grant(
     rec: Record,
     cycles: u64,
@@ -98,20 +73,12 @@ pub fn grant(
     registers: &mut [i32],
     cells: &mut [i32],
     out: &mut [i32],
-) -> GrantReply
+) -> Result<AcceptedGrant, Refusal>
     ensures { GrantIs (environment_of rec.parameters image.now input.now)
         (as_held rec registers.old cells.old) (as_call cycles out.old)
-        (as_granted result registers.new cells.new out.new) }
+        (as_granted rec result registers.new cells.new out.new) }
 {
-    let refusal = grant_refusal(rec, image, input, cycles, registers, cells);
-    if refusal != 0 {
-        return GrantReply {
-            outcome: Outcome::Refused(refusal),
-            rec,
-            values: 0,
-            cycles: 0,
-        };
-    }
+    check_grant(rec, image, input, cycles, registers, cells)?;
     let p = rec.parameters;
     let m = limit_of(p.k);
     let prices = price_table();
@@ -129,11 +96,10 @@ pub fn grant(
         cells,
         out,
     );
-    let ending = ran.ending;
-    GrantReply {
-        outcome: Outcome::Stopped(ending),
+    Ok(AcceptedGrant {
+        ending: ran.ending,
         rec: record_of(p, ran.core, granted, ran.spent),
         values: ran.count,
         cycles: ran.spent - rec.spent,
-    }
+    })
 }

@@ -14,6 +14,7 @@ pub mod Loop
 pub mod Lists
 pub mod Demand
 pub mod Refusals
+pub mod Replies
 pub mod Endings
 pub mod LoadNumbers
 pub mod Marked

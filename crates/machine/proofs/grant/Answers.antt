@@ -7,19 +7,19 @@ use Rattle.steps.proofs.Tops.{top-between}
 use Rattle.machine.proofs.CallLaws.{fits, sound, grant-refuses, runnable, grant-accepts}
 use Rattle.machine.proofs.grant.Goals as goal
 
-pub returns-then-refusal-ne0 : goal.returns-then-refusal-ne0
-returns-then-refusal-ne0 c =
+pub returns-in_err-check_grant : goal.returns-in_err-check_grant
+returns-in_err-check_grant c =
     let e = environment_of c.args.rec.parameters c.args.image.now c.args.input.now in
     let h = as_held c.args.rec c.args.registers.now c.args.cells.now in
     let call = as_call c.args.cycles c.args.out.now in
-    grant-refuses e h call _ (c.grant_refusal-refusal.ensures call.slice) c.if-refusal-ne0.true
+    grant-refuses e h call _ _ c.from_residual.ensures (c.in_err-check_grant.ensures call.slice)
 
 pub returns : goal.returns
 returns c =
     let e = environment_of c.args.rec.parameters c.args.image.now c.args.input.now in
     let h = as_held c.args.rec c.args.registers.now c.args.cells.now in
     let call = as_call c.args.cycles c.args.out.now in
-    grant-accepts e h call (c.grant_refusal-refusal.ensures call.slice) c.if-refusal-ne0.false _ (c.core_of.ensures h.memory)
+    grant-accepts e h call (c.in_ok-check_grant.ensures call.slice) _ (c.core_of.ensures h.memory)
     c.run-ran.ensures (c.record_of.ensures h.memory)
 
 pub limit_of-m-requires : goal.limit_of-m-requires
@@ -27,7 +27,7 @@ limit_of-m-requires c =
     let e = environment_of c.args.rec.parameters c.args.image.now c.args.input.now in
     let h = as_held c.args.rec c.args.registers.now c.args.cells.now in
     let call = as_call c.args.cycles c.args.out.now in
-    let l = limits c.args.rec.parameters (fits e h call (c.grant_refusal-refusal.ensures call.slice) c.if-refusal-ne0.false).start.fit in
+    let l = limits c.args.rec.parameters (fits e h call (c.in_ok-check_grant.ensures call.slice)).start.fit in
     (l.k-low, l.k-high)
 
 pub overflow_add-granted : goal.overflow_add-granted
@@ -35,16 +35,16 @@ overflow_add-granted c =
     let e = environment_of c.args.rec.parameters c.args.image.now c.args.input.now in
     let h = as_held c.args.rec c.args.registers.now c.args.cells.now in
     let call = as_call c.args.cycles c.args.out.now in
-    record { fits = omega (arith, (fits e h call (c.grant_refusal-refusal.ensures call.slice) c.if-refusal-ne0.false).granted) }
+    record { fits = omega (arith, (fits e h call (c.in_ok-check_grant.ensures call.slice)).granted) }
 
 pub core_of-requires : goal.core_of-requires
 core_of-requires c =
     let e = environment_of c.args.rec.parameters c.args.image.now c.args.input.now in
     let h = as_held c.args.rec c.args.registers.now c.args.cells.now in
     let call = as_call c.args.cycles c.args.out.now in
-    let refusal = c.grant_refusal-refusal.ensures call.slice in
-    let l = limits c.args.rec.parameters (fits e h call refusal c.if-refusal-ne0.false).start.fit in
-    let s = (sound e h call refusal c.if-refusal-ne0.false).state in
+    let passed = c.in_ok-check_grant.ensures call.slice in
+    let l = limits c.args.rec.parameters (fits e h call passed).start.fit in
+    let s = (sound e h call passed).state in
     (s.low, s.high, l.s-high)
 
 pub run-ran-requires : goal.run-ran-requires
@@ -52,7 +52,7 @@ run-ran-requires c =
     let e = environment_of c.args.rec.parameters c.args.image.now c.args.input.now in
     let h = as_held c.args.rec c.args.registers.now c.args.cells.now in
     let call = as_call c.args.cycles c.args.out.now in
-    runnable e h call (c.grant_refusal-refusal.ensures call.slice) c.if-refusal-ne0.false _ (c.core_of.ensures h.memory)
+    runnable e h call (c.in_ok-check_grant.ensures call.slice) _ (c.core_of.ensures h.memory)
     c.limit_of-m.ensures.value c.price_table-prices.ensures
 
 pub record_of-requires : goal.record_of-requires
@@ -60,6 +60,6 @@ record_of-requires c =
     let e = environment_of c.args.rec.parameters c.args.image.now c.args.input.now in
     let h = as_held c.args.rec c.args.registers.now c.args.cells.now in
     let call = as_call c.args.cycles c.args.out.now in
-    let l = limits c.args.rec.parameters (fits e h call (c.grant_refusal-refusal.ensures call.slice) c.if-refusal-ne0.false).start.fit in
+    let l = limits c.args.rec.parameters (fits e h call (c.in_ok-check_grant.ensures call.slice)).start.fit in
     let s = c.run-ran.ensures.sound in
     (omega (arith, s.iar, l.t-high), omega (arith, top-between c.run-ran.result.core.top c.args.rec.parameters.s s.high, l.s-high))
