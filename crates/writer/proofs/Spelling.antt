@@ -1,10 +1,9 @@
 -- The digits of a number, written from the last to the first. Assumes nothing.
-use Prim.Native.Nat.{ℕ, zero, suc, ◌+◌, ◌-◌, ◌/◌, ◌%◌, ◌≤◌, ◌<◌}
+use Prim.Native.Nat.{ℕ, zero, suc, ◌+◌, ◌*◌, ◌-◌, ◌/◌, ◌%◌, ◌^◌, ◌≤◌, ◌<◌, max}
 use mathlib.Core.Path.{◌≡◌, sym, ap, ◌∙◌}
 use mathlib.Core.Bool.{true, false}
 use mathlib.Core.List.{List, [], ◌∷◌, ◌++◌, append_assoc, append-nil}
-use native.Mathlib.Decide.{dec_lt}
-use native.Mathlib.Nat.{div-div-eq-div-mul}
+use native.Mathlib.Nat.{div-div-eq-div-mul, pow-suc}
 use native.Mathlib.Numerals.{add-one}
 use native.Mathlib.Omega.{arith}
 use lib.Dec.{leb-zero}
@@ -14,9 +13,11 @@ use lib.Seq.{take-length, drop-length, drop-cons, drop-set-lt, get_or-set_same}
 use lib.Signed.{le_z}
 use borrow.Author.Tests.{lt-ltb, le-ltb}
 use borrow.Rule.Slice.PartMut.{put_mid}
+use Rattle.std.specs.Prelude.{Ok, Err}
+use Rattle.model.specs.declared.Refusal.TheVariants as refusal
 use Rattle.model.specs.Numbers.{digits_of, decimal, longest_decimal}
 use Rattle.model.specs.Calls.{spelled}
-use Rattle.model.proofs.Decimals.{by_digits, digits_last, digits_more, digits_append, digits_fuel}
+use Rattle.model.proofs.Decimals.{digit-count, by_digits, digits_last, digits_more, digits_append}
 use Rattle.writer.specs.Decimal.{written}
 
 -- The last k digits of n in front of s, zeros where n has fewer.
@@ -46,21 +47,9 @@ all_digits = by_digits All last more
 pub decimal-digits : (n : ℕ) (s : List ℕ) → last_digits (length (decimal (pos n))) n s ≡ decimal (pos n) ++ s
 decimal-digits n s = all_digits (suc n) n (omega arith) s
 
--- One digit less.
-pub decimal_shorter : (n : ℕ) → 10 ≤ n → length (decimal (pos n)) ≡ length (decimal (pos (n / 10))) + 1
-decimal_shorter n h =
-    let d = 48 + n % 10 in
-    let ds = digits_of n (n / 10) [] in
-    ap length (digits_more n n [] h ∙ digits_append n (n / 10) [] (d ∷ []))
-    ∙ length-append ds (d ∷ [])
-    ∙ ap (λ (xs : List ℕ). length xs + 1) (digits_fuel n (n / 10) (omega arith) (suc (n / 10)) [] (omega arith))
-
-pub decimal-some : (n : ℕ) → 1 ≤ length (decimal (pos n))
-decimal-some n = go (dec_lt n 10)
-  where
-    go : Dec (n < 10) → 1 ≤ length (decimal (pos n))
-    go (yes l) = rw (digits_last n n [] l) (omega arith)
-    go (no g) = omega (arith, decimal_shorter n (omega arith))
+-- From 10^k on, and from 0 on for k = 0, n has k + 1 digits.
+pub digits_counted : (k n : ℕ) → 10 ^ k ≤ max 1 n → n < 10 * 10 ^ k → length (decimal (pos n)) ≡ k + 1
+digits_counted k n l h = digit-count k n l (rw pow-suc (omega arith)) ∙ sym (add-one k)
 
 -- One more digit in front.
 pub write-digit : (at n : ℕ) (out : List ℕ) → 0 < at → at ≤ length out →
@@ -106,11 +95,11 @@ minus-first (b ∷ s) ds out count h e =
     rw (k, drop-length, append-nil, add-one) (ap (λ (xs : List ℕ). 45 ∷ xs) f)
 
 -- THE REPLY
-pub spelled-short : (z : ℤ) (old : List ℕ) → length old < longest_decimal → written (record { refusal = 18; count = 0 }) old ≡ spelled z old
+pub spelled-short : (z : ℤ) (old : List ℕ) → length old < longest_decimal → written (Err refusal.DecimalLength) old ≡ spelled z old
 unfolding spelled
 spelled-short z old h = rw (lt-ltb (length old) longest_decimal h)
 
 pub spelled-long : (z : ℤ) (old ds out : List ℕ) (count : ℕ) → longest_decimal ≤ length old → decimal z ≡ ds → count ≡ length ds → out ≡ ds ++ drop count old →
-    written (record { refusal = 0; count = count }) out ≡ spelled z old
+    written (Ok count) out ≡ spelled z old
 unfolding spelled
 spelled-long z old ds out count h d n e = rw (le-ltb (length old) longest_decimal h, d, e, n)

@@ -1,8 +1,9 @@
 -- What the decimal writer answers.
-use Rattle.std.specs.Prelude.{ℕ, List}
-use Rattle.model.specs.Calls.{DecimalReply}
+use Rattle.std.specs.Prelude.{ℕ, List, Result}
+use Rattle.model.specs.declared.Refusal.{Refusal}
 use Rattle.model.specs.Calls.{Spelled}
+use Rattle.model.specs.Replies.{decimal_answer}
 
 -- The reply together with the lent bytes.
-abbrev pub written : DecimalReply → List ℕ → Spelled
-written r out = record { reply = r; bytes = out }
+abbrev pub written : Result ℕ Refusal → List ℕ → Spelled
+written r out = record { reply = decimal_answer r; bytes = out }

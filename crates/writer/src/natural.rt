@@ -3,16 +3,11 @@ ghost use Rattle.std.specs.Prelude.{◌≡◌, ◌++◌, ◌≤◌, pos, length,
 ghost use Rattle.model.specs.Numbers.{decimal};
 
 // The count of n's digits.
-fn count_digits(n: u64) -> usize
+#[tactic(auto, using(crate::proofs::Spelling::digits_counted))]
+pub(crate) fn digit_count(n: u64) -> usize
     ensures { (result ≡ length (decimal (pos n))) × (result ≤ 20) }
 {
-    let mut count = 1;
-    let mut left = n;
-    while 10 <= left {
-        left /= 10;
-        count += 1;
-    }
-    count
+    n.max(1).ilog10() as usize + 1
 }
 
 // Writes n, of that many digits, at the start of `out`, two at a time and from the last to the first, so that none is moved.
@@ -39,7 +34,7 @@ pub fn write_natural(n: u64, out: &mut [u8]) -> usize
     requires { 20 ≤ length out.old }
     ensures { (result ≡ length (decimal (pos n))) × (out.new ≡ decimal (pos n) ++ drop result out.old) }
 {
-    let count = count_digits(n);
+    let count = digit_count(n);
     write_digits(n, count, out);
     count
 }
