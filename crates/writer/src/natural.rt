@@ -4,7 +4,7 @@ ghost use Rattle.model.specs.Numbers.{decimal};
 
 // The count of n's digits.
 #[tactic(auto, using(crate::proofs::Spelling::digits_counted))]
-pub(crate) fn digit_count(n: u64) -> usize
+pub fn digit_count(n: u64) -> usize
     ensures { (result ≡ length (decimal (pos n))) × (result ≤ 20) }
 {
     n.max(1).ilog10() as usize + 1
