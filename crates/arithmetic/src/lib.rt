@@ -1,4 +1,4 @@
-// NEG, ABS, ADD, SUB, MUL, DIV, MOD, INC and DEC. NEG and DIV work in 32 bits, the others in 64. m is document 01's M throughout.
+// NEG, ABS, ADD, SUB, MUL, DIV, MOD, INC and DEC. NEG and DIV work in 32 bits, the others and every range test in 64. m is document 01's M throughout.
 #![tactic(auto)]
 
 ghost use Rattle.std.specs.Prelude.{◌≡◌, ◌≤◌, pos, neg_ℤ, nat_abs, ◌+ℤ◌, ◌-ℤ◌, ◌*ℤ◌};
@@ -7,7 +7,7 @@ ghost use Rattle.model.specs.Arithmetic.{checked, divide, remainder};
 ghost use Rattle.bounds.specs.Bounds.{IsLimit, Within};
 ghost use Rattle.arithmetic.specs.Answers.{computed};
 
-use bounds::ranges::{in_range, in_range_wide};
+use bounds::ranges::in_range_wide;
 
 // A return code, and the value where it is 0.
 #[derive(Clone, Copy)]
@@ -17,19 +17,8 @@ pub struct Computed {
 }
 
 // The exact result z, or code 1.
-fn checked(m: u32, z: i32) -> Computed
-    requires { IsLimit m }
-    ensures value { result ≡ computed (checked m z) }
-    ensures range { Within m result.value }
-{
-    if in_range(m, z) {
-        return Computed { code: 0, value: z };
-    }
-    Computed { code: 1, value: 0 }
-}
-
-// The same of a result in 64 bits.
-fn checked_wide(m: u32, z: i64) -> Computed
+#[tactic(auto, unfolding(model::specs::Arithmetic::checked))]
+fn checked(m: u32, z: i64) -> Computed
     requires { IsLimit m }
     ensures value { result ≡ computed (checked m z) }
     ensures range { Within m result.value }
@@ -49,7 +38,7 @@ pub fn neg(m: u32, x: i32) -> Computed
     ensures value { result ≡ computed (checked m (neg_ℤ x)) }
     ensures range { Within m result.value }
 {
-    checked(m, -x)
+    checked(m, i64::from(-x))
 }
 
 pub fn abs(m: u32, x: i32) -> Computed
@@ -57,11 +46,7 @@ pub fn abs(m: u32, x: i32) -> Computed
     ensures value { result ≡ computed (checked m (pos (nat_abs x))) }
     ensures range { Within m result.value }
 {
-    let z = x as i64;
-    if z < 0 {
-        return checked_wide(m, -z);
-    }
-    checked_wide(m, z)
+    checked(m, i64::from(x).abs())
 }
 
 // ADD and INC.
@@ -70,7 +55,7 @@ pub fn add(m: u32, x: i32, y: i32) -> Computed
     ensures value { result ≡ computed (checked m (x +ℤ y)) }
     ensures range { Within m result.value }
 {
-    checked_wide(m, (x as i64) + (y as i64))
+    checked(m, i64::from(x) + i64::from(y))
 }
 
 // SUB and DEC.
@@ -79,7 +64,7 @@ pub fn sub(m: u32, x: i32, y: i32) -> Computed
     ensures value { result ≡ computed (checked m (x -ℤ y)) }
     ensures range { Within m result.value }
 {
-    checked_wide(m, (x as i64) - (y as i64))
+    checked(m, i64::from(x) - i64::from(y))
 }
 
 pub fn mul(m: u32, x: i32, y: i32) -> Computed
@@ -87,10 +72,11 @@ pub fn mul(m: u32, x: i32, y: i32) -> Computed
     ensures value { result ≡ computed (checked m (x *ℤ y)) }
     ensures range { Within m result.value }
 {
-    checked_wide(m, (x as i64) * (y as i64))
+    checked(m, i64::from(x) * i64::from(y))
 }
 
 // Divisor 0 before anything else. Only -M DIV -1 is then outside the range.
+#[tactic(auto, using(bounds::proofs::Integers::is_zero), unfolding(model::specs::Arithmetic::divide))]
 pub fn div(m: u32, x: i32, y: i32) -> Computed
     requires limit { IsLimit m }
     requires within { Within m x }
@@ -100,10 +86,11 @@ pub fn div(m: u32, x: i32, y: i32) -> Computed
     if y == 0 {
         return Computed { code: 2, value: 0 };
     }
-    checked(m, x / y)
+    checked(m, i64::from(x / y))
 }
 
 // MOD. The remainder is no larger than x, so that it needs no test.
+#[tactic(auto, using(bounds::proofs::Integers::is_zero), unfolding(model::specs::Arithmetic::remainder))]
 pub fn modulo(x: i32, y: i32) -> Computed
     ensures value { result ≡ computed (remainder x y) }
     ensures range { mag result.value ≤ mag x }
@@ -113,6 +100,6 @@ pub fn modulo(x: i32, y: i32) -> Computed
     }
     Computed {
         code: 0,
-        value: ((x as i64) % (y as i64)) as i32,
+        value: (i64::from(x) % i64::from(y)) as i32,
     }
 }
