@@ -19,7 +19,3 @@ module _ {x y : ℤ} (fx : SFits w32 x) (fy : SFits w32 y) where
       r ≡ computed (cond (is_boolean (read x) && is_boolean (read y)) (value (boolean_of (f a b))) (code 1)) → r ≡ computed (logic f x y)
   unfolding logic
   combine f a b h = rw (a, b, to_z-of_z fx, to_z-of_z fy) at h
-
-  -- A comparison, as a Boolean.
-  pub compare : (f : ℤ → ℤ → Bool) {b : Bool} {r : ℤ} → SFits w32 r → b ≡ f (read x) (read y) → r ≡ boolean_of b → read r ≡ boolean_of (f x y)
-  compare f fr b h = rw (to_z-of_z fr) (rw (b, to_z-of_z fx, to_z-of_z fy) at h)

@@ -8,28 +8,18 @@ ghost use Rattle.arithmetic.specs.Answers.{computed};
 
 use arithmetic::Computed;
 
-// Two values are equal.
-pub fn equal(x: i32, y: i32) -> bool
-    ensures { result ≡ eq_z x y }
-{
-    x == y
-}
-
 // A value is truth.
 pub fn is_true(x: i32) -> bool
     ensures { result ≡ is_true x }
 {
-    equal(x, -1)
+    x == -1
 }
 
 // A value is truth or falsehood.
 pub fn is_boolean(x: i32) -> bool
     ensures { result ≡ is_boolean x }
 {
-    if equal(x, -1) {
-        return true;
-    }
-    equal(x, 0)
+    matches!(x, -1 | 0)
 }
 
 // Truth is -1, falsehood 0.
@@ -42,13 +32,13 @@ pub fn boolean(b: bool) -> i32
 pub fn cmpeq(x: i32, y: i32) -> i32
     ensures { result ≡ boolean_of (eq_z x y) }
 {
-    boolean(equal(x, y))
+    boolean(x == y)
 }
 
 pub fn cmpneq(x: i32, y: i32) -> i32
     ensures { result ≡ boolean_of (not (eq_z x y)) }
 {
-    boolean(!equal(x, y))
+    boolean(x != y)
 }
 
 pub fn cmplt(x: i32, y: i32) -> i32
@@ -75,6 +65,7 @@ pub fn cmpge(x: i32, y: i32) -> i32
     boolean(y <= x)
 }
 
+#[tactic(auto, unfolding(model::specs::Arithmetic::negation))]
 pub fn not(x: i32) -> Computed
     ensures { result ≡ computed (negation x) }
 {
@@ -91,13 +82,11 @@ pub fn not(x: i32) -> Computed
 fn combined(x: i32, y: i32, b: bool) -> Computed
     ensures { result ≡ computed (cond (is_boolean x && is_boolean y) (value (boolean_of b)) (code 1)) }
 {
-    if is_boolean(x) {
-        if is_boolean(y) {
-            return Computed {
-                code: 0,
-                value: boolean(b),
-            };
-        }
+    if is_boolean(x) && is_boolean(y) {
+        return Computed {
+            code: 0,
+            value: boolean(b),
+        };
     }
     Computed { code: 1, value: 0 }
 }

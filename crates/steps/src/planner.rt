@@ -8,7 +8,7 @@ use arithmetic::{abs, add, div, modulo, mul, neg, sub};
 use bitwise::bits::{asr, rand, rnand, rnor, rnot, ror, rsl, rsr, rxor};
 use image::decode::Instruction;
 use logic::booleans::{
-    and, boolean, cmpeq, cmpge, cmpgt, cmple, cmplt, cmpneq, equal, is_true, nand, nor, not, or,
+    and, boolean, cmpeq, cmpge, cmpgt, cmple, cmplt, cmpneq, is_true, nand, nor, not, or,
     xor,
 };
 use model::Parameters;
@@ -70,8 +70,8 @@ pub fn choose(
         34 => jump(p.t, x, at),
         35 => jump_boolean(y, is_true(y), p.t, x, at),
         36 => jump_boolean(y, !is_true(y), p.t, x, at),
-        37 => jump_when(equal(y, read(i.third, at, registers, cells)), p.t, x, at),
-        38 => jump_when(!equal(y, read(i.third, at, registers, cells)), p.t, x, at),
+        37 => jump_when(y == read(i.third, at, registers, cells), p.t, x, at),
+        38 => jump_when(y != read(i.third, at, registers, cells), p.t, x, at),
         39 => jump_when(y < read(i.third, at, registers, cells), p.t, x, at),
         40 => jump_when(read(i.third, at, registers, cells) < y, p.t, x, at),
         41 => jump_when(y <= read(i.third, at, registers, cells), p.t, x, at),

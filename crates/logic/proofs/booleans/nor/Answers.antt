@@ -3,6 +3,4 @@ use Rattle.logic.proofs.Combined.{combine}
 use Rattle.logic.proofs.booleans.nor.Goals as goal
 
 pub returns : goal.returns
-returns c =
-    let s = c in
-    combine s.ranges.x s.ranges.y (λ a b. not (a || b)) c.is_true.ensures c.is_true-2.ensures c.combined.ensures
+returns c = combine c.ranges.x c.ranges.y (λ a b. not (a || b)) c.is_true.ensures c.is_true-2.ensures c.combined.ensures

@@ -4,6 +4,4 @@ use Rattle.logic.proofs.booleans.xor.Goals as goal
 
 pub returns : goal.returns
 unfolding xor
-returns c =
-    let s = c in
-    combine s.ranges.x s.ranges.y xor c.is_true.ensures c.is_true-2.ensures c.combined.ensures
+returns c = combine c.ranges.x c.ranges.y xor c.is_true.ensures c.is_true-2.ensures c.combined.ensures

@@ -3,6 +3,7 @@ use Prim.Native.Nat.{ℕ, ◌^◌, ◌<◌}
 use mathlib.Core.Bool.{Bool, not, beq}
 use mathlib.Core.Path.{◌≡◌, refl, sym, ap, ◌∙◌}
 use native.Mathlib.Omega.{arith}
+use lib.Dec.{eqb}
 use lib.IntN.{ℤ}
 use mathlib.Core.List.{List}
 use Rattle.model.specs.declared.Parameters.{Parameters}
@@ -14,10 +15,11 @@ use mir.Syntax.{w32}
 use mir.Val.{SFits, to_z, of_z}
 use Rattle.model.specs.Arithmetic.{Answer, value}
 use Rattle.model.specs.Instructions.{Position, Operation, row_of, writes, jumps, jumps_on, instruction_count}
-use Rattle.model.specs.Parameters.{limit, is_true}
+use Rattle.model.specs.Parameters.{limit, is_true, eq_z}
 use Rattle.model.specs.Step.{value_of, argument_at}
 use Rattle.arithmetic.specs.Answers.{computed}
 use Rattle.arithmetic.specs.declared.Computed.{Computed}
+use Rattle.bounds.proofs.Integers.{eq_z-bits}
 use Rattle.bounds.specs.Bounds.{Within}
 use Rattle.image.specs.Decode.{cell_from}
 use Rattle.operands.specs.Cores.{state_of}
@@ -26,6 +28,12 @@ use Rattle.plans.specs.declared.Plan.{Plan}
 use Rattle.steps.specs.Choices.{Choosable, plan_of}
 use Rattle.steps.proofs.ChoiceLaws.{NoneTo, beyond, beq-true, beq-false}
 use Rattle.steps.proofs.planner.choose.Goals as goal
+
+-- `==` compares bits.
+same : {a : ℤ} → SFits w32 a → (b : ℤ) → mag b < 2 ^ 31 → eqb (of_z w32 a) (of_z w32 b) ≡ eq_z (to_z w32 (of_z w32 a)) (to_z w32 (of_z w32 b))
+same f b k =
+    let g : SFits w32 b = record { sfits = k } in
+    rw (to_z-of_z f, to_z-of_z g) (eq_z-bits f g)
 
 module _ (i : Instruction) {x y : ℤ} {p : Parameters} {m : ℕ} {at : Core} {registers cells : List ℤ} {bytes : List ℕ}
     (s : Choosable i.number p m x y at registers cells bytes) (fx : SFits w32 x) (fy : SFits w32 y) where
@@ -232,11 +240,11 @@ returns-in-36 c = jumped-on c.args.i c.requires c.ranges.x c.ranges.y c.in-36.is
 
 pub returns-in-37 : goal.returns-in-37
 unfolding row_of written_plan
-returns-in-37 c = jumped c.args.i c.requires c.ranges.x c.ranges.y c.in-37.is refl c.read.type_inv c.read.ensures c.equal.ensures c.jump_when.ensures
+returns-in-37 c = jumped c.args.i c.requires c.ranges.x c.ranges.y c.in-37.is refl c.read.type_inv c.read.ensures (same c.ranges.y c.read.result c.read.type_inv) c.jump_when.ensures
 
 pub returns-in-38 : goal.returns-in-38
 unfolding row_of written_plan
-returns-in-38 c = jumped c.args.i c.requires c.ranges.x c.ranges.y c.in-38.is refl c.read-in-38.type_inv c.read-in-38.ensures (ap not c.equal-in-38.ensures) c.jump_when-in-38.ensures
+returns-in-38 c = jumped c.args.i c.requires c.ranges.x c.ranges.y c.in-38.is refl c.read-in-38.type_inv c.read-in-38.ensures (ap not (same c.ranges.y c.read-in-38.result c.read-in-38.type_inv)) c.jump_when-in-38.ensures
 
 pub returns-in-39 : goal.returns-in-39
 unfolding row_of written_plan
