@@ -52,26 +52,17 @@ bits_signed m u h = go (ltb u m) refl
     go true e = refl
     go false e = omega arith
 
--- RNOT
-pub mag-minus-one : (x : ℤ) → mag (negsuc 0 -ℤ x) ≡ mag x
-mag-minus-one (pos zero) = refl
-mag-minus-one (pos (suc n)) = omega arith
-mag-minus-one (negsuc n) = ap mag (sub_ge (suc n) 1 (omega arith)) ∙ omega arith
-
-minus-one-pos : (n : ℕ) → negsuc 0 -ℤ pos n ≡ negsuc n
-minus-one-pos zero = refl
-minus-one-pos (suc n) = ap negsuc (omega arith)
-
--- "RNOT x is -1 - x"
-pub inverted-is : (m : ℕ) (x : ℤ) → mag x < m → negsuc 0 -ℤ x ≡ signed_of m (inverted m (bits_of m x))
+-- RNOT: the 32 bits of x inverted are -1 - x, and so are its K bits.
+pub inverted-is : (m : ℕ) (x : ℤ) → SFits w32 x → mag x < m → to_z w32 (4294967295 - of_z w32 x) ≡ signed_of m (inverted m (bits_of m x))
 unfolding bits_of
-inverted-is m (pos n) h =
+inverted-is m (pos n) f h =
     let e : 2 * m - suc (2 * m - suc n) ≡ n = omega arith in
-    minus-one-pos n ∙ sym (signed_top m (2 * m - suc n) (omega arith) ∙ ap negsuc e)
-inverted-is m (negsuc n) h =
+    let d : 4294967295 - n ≡ 2 ^ 32 - suc n = omega arith in
+    rw (d, to_z-neg w32 n (omega (arith, f.sfits))) (sym (signed_top m (2 * m - suc n) (omega arith) ∙ ap negsuc e))
+inverted-is m (negsuc n) f h =
     let e : 2 * m - suc (2 * m - suc n) ≡ n = omega arith in
-    let d : suc n - 1 ≡ n = omega arith in
-    sub_ge (suc n) 1 (omega arith) ∙ ap pos d ∙ rw e (signed_low m n h)
+    let d : 4294967295 - (2 ^ 32 - suc n) ≡ n = omega (arith, f.sfits) in
+    rw (d, to_z_pos w32 {n = n} (omega (arith, f.sfits)), e) (signed_low m n h)
 
 -- TWO VALUES x and y, read out of 32 bits, and an operation f that makes K bits of K bits.
 abbrev read : ℤ → ℤ

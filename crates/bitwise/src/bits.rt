@@ -5,6 +5,7 @@ ghost use Rattle.model.specs.Arithmetic.{bits_of, signed_of, inverted, bitwise, 
 ghost use Rattle.bounds.specs.Bounds.{IsLimit, Within};
 
 // The K bits of a value.
+#[tactic(auto, unfolding(model::specs::Arithmetic::bits_of))]
 fn bits(m: u32, x: i32) -> u32
     requires limit { IsLimit m }
     requires within { Within m x }
@@ -12,12 +13,14 @@ fn bits(m: u32, x: i32) -> u32
     ensures range { result < 2 * m }
 {
     if x < 0 {
-        return ((x as i64) + ((2 * m) as i64)) as u32;
+        2 * m - x.unsigned_abs()
+    } else {
+        x.unsigned_abs()
     }
-    x as u32
 }
 
 // K bits read back as signed.
+#[tactic(auto, unfolding(model::specs::Arithmetic::signed_of))]
 fn signed(m: u32, u: u32) -> i32
     requires limit { IsLimit m }
     requires u_bound { u < 2 * m }
@@ -25,17 +28,18 @@ fn signed(m: u32, u: u32) -> i32
     ensures range { Within m result }
 {
     if u < m {
-        return u as i32;
+        u as i32
+    } else {
+        -((2 * m - u) as i32)
     }
-    ((u as i64) - ((2 * m) as i64)) as i32
 }
 
-// Whatever M, inverting every bit is -1 - x.
+// Whatever M, inverting its K bits is inverting all 32.
 pub fn rnot(x: i32) -> i32
     ensures by_index { (m : ℕ) → Within m x → result ≡ signed_of m (inverted m (bits_of m x)) }
     ensures range { (m : ℕ) → Within m x → Within m result }
 {
-    -1 - x
+    !x
 }
 
 pub fn rand(m: u32, x: i32, y: i32) -> i32
@@ -87,7 +91,7 @@ pub fn rnor(m: u32, x: i32, y: i32) -> i32
 fn double(x: i32) -> i64
     ensures { result ≡ x +ℤ x }
 {
-    (x as i64) << 1
+    i64::from(x) << 1
 }
 
 // RSL and ASL: twice the value, brought back by 2^K where that is outside the range.
@@ -109,6 +113,7 @@ pub fn rsl(m: u32, x: i32) -> i32
     twice as i32
 }
 
+#[tactic(auto, unfolding(model::specs::Arithmetic::shift_right))]
 pub fn rsr(m: u32, x: i32) -> i32
     requires limit { IsLimit m }
     requires within { Within m x }
