@@ -9,7 +9,7 @@ ghost use Rattle.model.specs.Parameters.{max_cells, max_instructions};
 use arithmetic::Computed;
 use logic::booleans::is_boolean;
 use model::words::{FIRST_DIRECT, FIRST_REGISTER, SHR};
-use numbers::reading::{Reading, read_number};
+use numbers::reading::{NumberError, read_number};
 use operands::Core;
 use text::tokens::next_token;
 
@@ -40,6 +40,7 @@ impl Plan {
 }
 
 // A value goes somewhere, and IAR is raised.
+#[tactic(auto, unfolding(crate::specs::Plans::written_plan))]
 pub fn store(to: u32, value: i32, at: Core) -> Plan
     requires { at.iar ≤ max_instructions }
     ensures { result ≡ written_plan to value at }
@@ -50,8 +51,7 @@ pub fn store(to: u32, value: i32, at: Core) -> Plan
         next: Core {
             iar: at.iar + 1,
             ircr: 0,
-            top: at.top,
-            place: at.place,
+            ..at
         },
     }
 }
@@ -65,22 +65,19 @@ pub fn keep(at: Core) -> Plan
 }
 
 // IRCR is set, and no more.
+#[tactic(auto, unfolding(crate::specs::Plans::failed_plan))]
 pub fn fail(code: u32, at: Core) -> Plan
     ensures { result ≡ failed_plan code at }
 {
     Plan {
         value: 0,
         to: Plan::NOWHERE,
-        next: Core {
-            iar: at.iar,
-            ircr: code,
-            top: at.top,
-            place: at.place,
-        },
+        next: Core { ircr: code, ..at },
     }
 }
 
 // The value of a computation goes somewhere, or its code is set. Without a choice here IAR does not wait for the value.
+#[tactic(auto, unfolding(crate::specs::Plans::written_plan))]
 pub fn store_answer(to: u32, answer: Computed, at: Core) -> Plan
     requires { at.iar ≤ max_instructions }
     ensures { result ≡ computed_plan to answer at }
@@ -91,25 +88,21 @@ pub fn store_answer(to: u32, answer: Computed, at: Core) -> Plan
 }
 
 // A jump: valid targets are 0..T-1.
+#[tactic(auto, unfolding(crate::specs::Plans::jump_plan, crate::specs::Plans::failed_plan))]
 pub fn jump(t: u32, target: i32, at: Core) -> Plan
     ensures { result ≡ jump_plan t target at }
 {
-    if target < 0 {
-        return fail(1, at);
-    }
-    let iar = target as u32;
-    if t <= iar {
-        return fail(1, at);
-    }
-    Plan {
-        value: 0,
-        to: Plan::NOWHERE,
-        next: Core {
-            iar: iar as usize,
-            ircr: 0,
-            top: at.top,
-            place: at.place,
+    match u32::try_from(target) {
+        Ok(iar) if iar < t => Plan {
+            value: 0,
+            to: Plan::NOWHERE,
+            next: Core {
+                iar: iar as usize,
+                ircr: 0,
+                ..at
+            },
         },
+        _ => fail(1, at),
     }
 }
 
@@ -144,6 +137,7 @@ pub fn skip(t: u32, at: Core) -> Plan
 }
 
 // PUSH of the word w, which says `value`. The raised SHR is `top`, and that is what SHR says then.
+#[tactic(auto, unfolding(crate::specs::Plans::push_plan))]
 pub fn push(w: u32, value: i32, s: u32, at: Core) -> Plan
     requires { (at.iar ≤ max_instructions) × (at.top ≤ max_cells) }
     ensures { result ≡ push_plan w value s at }
@@ -152,12 +146,7 @@ pub fn push(w: u32, value: i32, s: u32, at: Core) -> Plan
     if top == s as usize {
         return fail(1, at);
     }
-    let raised = Core {
-        iar: at.iar,
-        ircr: at.ircr,
-        top: top + 1,
-        place: at.place,
-    };
+    let raised = Core { top: top + 1, ..at };
     let to = FIRST_DIRECT + (top as u32);
     if w == SHR_WORD {
         return store(to, top as i32, raised);
@@ -166,6 +155,7 @@ pub fn push(w: u32, value: i32, s: u32, at: Core) -> Plan
 }
 
 // POP to the word w.
+#[tactic(auto, unfolding(crate::specs::Plans::pop_plan))]
 pub fn pop(w: u32, b: u32, at: Core, cells: &[i32]) -> Plan
     requires { (at.iar ≤ max_instructions) × (b ≤ at.top) × (at.top ≤ length cells.now) }
     ensures { result ≡ pop_plan w b at cells.now }
@@ -175,12 +165,7 @@ pub fn pop(w: u32, b: u32, at: Core, cells: &[i32]) -> Plan
         return fail(1, at);
     }
     let head = top - 1;
-    let lowered = Core {
-        iar: at.iar,
-        ircr: at.ircr,
-        top: head,
-        place: at.place,
-    };
+    let lowered = Core { top: head, ..at };
     store(w, cells[head], lowered)
 }
 
@@ -196,19 +181,9 @@ pub fn input(w: u32, m: u32, at: Core, bytes: &[u8]) -> Plan
     if start == end {
         return fail(3, at);
     }
-    let reading = read_number(&bytes[start..end], m);
-    match reading {
-        Reading::NotANumber => fail(1, at),
-        Reading::Outside => fail(2, at),
-        Reading::Number(value) => store(
-            w,
-            value,
-            Core {
-                iar: at.iar,
-                ircr: at.ircr,
-                top: at.top,
-                place: end,
-            },
-        ),
+    match read_number(&bytes[start..end], m) {
+        Ok(value) => store(w, value, Core { place: end, ..at }),
+        Err(NumberError::NotANumber) => fail(1, at),
+        Err(NumberError::Outside) => fail(2, at),
     }
 }
