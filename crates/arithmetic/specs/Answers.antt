@@ -1,9 +1,16 @@
 -- How the code hands back a value or a return code.
-use Rattle.std.specs.Prelude.{pos}
+use Rattle.std.specs.Prelude.{ℕ, ℤ, Result, Ok, Err}
 use Rattle.model.specs.Arithmetic.{Answer, value, code}
-use Rattle.arithmetic.specs.declared.Computed.{Computed}
+use Rattle.arithmetic.specs.declared.ReturnCode.{ReturnCode}
+use Rattle.arithmetic.specs.declared.ReturnCode.TheVariants.{OutOfRange, DivisorZero, NotBoolean}
 
--- An answer as the code gives it: code 0 with the value, or the code with 0.
-abbrev pub computed : Answer → Computed
-computed (value z) = record { code = 0; value = z }
-computed (code n) = record { code = n; value = pos 0 }
+-- The number of each return code: "code 1 when the exact result is outside", "Divisor 0 gives code 2", 1 where a value is no Boolean.
+abbrev pub number_of : ReturnCode → ℕ
+number_of OutOfRange = 1
+number_of DivisorZero = 2
+number_of NotBoolean = 1
+
+-- What the code hands back, as the definitions answer it.
+abbrev pub answer_of : Result ℤ ReturnCode → Answer
+answer_of (Ok z) = value z
+answer_of (Err c) = code (number_of c)

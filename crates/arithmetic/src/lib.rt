@@ -1,105 +1,120 @@
 // NEG, ABS, ADD, SUB, MUL, DIV, MOD, INC and DEC. NEG and DIV work in 32 bits, the others and every range test in 64. m is document 01's M throughout.
 #![tactic(auto)]
 
-ghost use Rattle.std.specs.Prelude.{◌≡◌, ◌≤◌, pos, neg_ℤ, nat_abs, ◌+ℤ◌, ◌-ℤ◌, ◌*ℤ◌};
+ghost use Rattle.std.specs.Prelude.{◌≡◌, ◌≢◌, ◌≤◌, Err, IfOk, IsOkUnless, pos, neg_ℤ, nat_abs, ◌+ℤ◌, ◌-ℤ◌, ◌*ℤ◌};
 ghost use Rattle.std.specs.Int.Signed.{mag};
 ghost use Rattle.model.specs.Arithmetic.{checked, divide, remainder};
 ghost use Rattle.bounds.specs.Bounds.{IsLimit, Within};
-ghost use Rattle.arithmetic.specs.Answers.{computed};
+ghost use Rattle.arithmetic.specs.Answers.{number_of, answer_of};
 
 use bounds::ranges::in_range_wide;
 
-// A return code, and the value where it is 0.
-#[derive(Clone, Copy)]
-pub struct Computed {
-    pub code: u32,
-    pub value: i32,
+// Why an operation has no value.
+#[derive(Clone, Copy, Debug, PartialEq, Eq)]
+pub enum ReturnCode {
+    OutOfRange,
+    DivisorZero,
+    NotBoolean,
+}
+
+// What IRCR says of it.
+impl From<ReturnCode> for u32 {
+    ghost from_gives = { λ c n. n ≡ number_of c };
+
+    fn from(code: ReturnCode) -> u32 {
+        match code {
+            ReturnCode::OutOfRange | ReturnCode::NotBoolean => 1,
+            ReturnCode::DivisorZero => 2,
+        }
+    }
 }
 
 // The exact result z, or code 1.
 #[tactic(auto, unfolding(model::specs::Arithmetic::checked))]
-fn checked(m: u32, z: i64) -> Computed
+fn checked(m: u32, z: i64) -> Result<i32, ReturnCode>
     requires { IsLimit m }
-    ensures value { result ≡ computed (checked m z) }
-    ensures range { Within m result.value }
+    ensures value { answer_of result ≡ checked m z }
+    ensures range { IfOk result (Within m) }
+    ensures reason { IsOkUnless result ReturnCode.OutOfRange }
 {
     if in_range_wide(m, z) {
-        return Computed {
-            code: 0,
-            value: z as i32,
-        };
+        return Ok(z as i32);
     }
-    Computed { code: 1, value: 0 }
+    Err(ReturnCode::OutOfRange)
 }
 
-pub fn neg(m: u32, x: i32) -> Computed
+pub fn neg(m: u32, x: i32) -> Result<i32, ReturnCode>
     requires limit { IsLimit m }
     requires within { Within m x }
-    ensures value { result ≡ computed (checked m (neg_ℤ x)) }
-    ensures range { Within m result.value }
+    ensures value { answer_of result ≡ checked m (neg_ℤ x) }
+    ensures range { IfOk result (Within m) }
+    ensures reason { IsOkUnless result ReturnCode.OutOfRange }
 {
     checked(m, i64::from(-x))
 }
 
-pub fn abs(m: u32, x: i32) -> Computed
+pub fn abs(m: u32, x: i32) -> Result<i32, ReturnCode>
     requires { IsLimit m }
-    ensures value { result ≡ computed (checked m (pos (nat_abs x))) }
-    ensures range { Within m result.value }
+    ensures value { answer_of result ≡ checked m (pos (nat_abs x)) }
+    ensures range { IfOk result (Within m) }
+    ensures reason { IsOkUnless result ReturnCode.OutOfRange }
 {
     checked(m, i64::from(x).abs())
 }
 
 // ADD and INC.
-pub fn add(m: u32, x: i32, y: i32) -> Computed
+pub fn add(m: u32, x: i32, y: i32) -> Result<i32, ReturnCode>
     requires { IsLimit m }
-    ensures value { result ≡ computed (checked m (x +ℤ y)) }
-    ensures range { Within m result.value }
+    ensures value { answer_of result ≡ checked m (x +ℤ y) }
+    ensures range { IfOk result (Within m) }
+    ensures reason { IsOkUnless result ReturnCode.OutOfRange }
 {
     checked(m, i64::from(x) + i64::from(y))
 }
 
 // SUB and DEC.
-pub fn sub(m: u32, x: i32, y: i32) -> Computed
+pub fn sub(m: u32, x: i32, y: i32) -> Result<i32, ReturnCode>
     requires { IsLimit m }
-    ensures value { result ≡ computed (checked m (x -ℤ y)) }
-    ensures range { Within m result.value }
+    ensures value { answer_of result ≡ checked m (x -ℤ y) }
+    ensures range { IfOk result (Within m) }
+    ensures reason { IsOkUnless result ReturnCode.OutOfRange }
 {
     checked(m, i64::from(x) - i64::from(y))
 }
 
-pub fn mul(m: u32, x: i32, y: i32) -> Computed
+pub fn mul(m: u32, x: i32, y: i32) -> Result<i32, ReturnCode>
     requires { IsLimit m }
-    ensures value { result ≡ computed (checked m (x *ℤ y)) }
-    ensures range { Within m result.value }
+    ensures value { answer_of result ≡ checked m (x *ℤ y) }
+    ensures range { IfOk result (Within m) }
+    ensures reason { IsOkUnless result ReturnCode.OutOfRange }
 {
     checked(m, i64::from(x) * i64::from(y))
 }
 
 // Divisor 0 before anything else. Only -M DIV -1 is then outside the range.
 #[tactic(auto, using(bounds::proofs::Integers::is_zero), unfolding(model::specs::Arithmetic::divide))]
-pub fn div(m: u32, x: i32, y: i32) -> Computed
+pub fn div(m: u32, x: i32, y: i32) -> Result<i32, ReturnCode>
     requires limit { IsLimit m }
     requires within { Within m x }
-    ensures value { result ≡ computed (divide m x y) }
-    ensures range { Within m result.value }
+    ensures value { answer_of result ≡ divide m x y }
+    ensures range { IfOk result (Within m) }
+    ensures reason { result ≢ Err ReturnCode.NotBoolean }
 {
     if y == 0 {
-        return Computed { code: 2, value: 0 };
+        return Err(ReturnCode::DivisorZero);
     }
     checked(m, i64::from(x / y))
 }
 
 // MOD. The remainder is no larger than x, so that it needs no test.
 #[tactic(auto, using(bounds::proofs::Integers::is_zero), unfolding(model::specs::Arithmetic::remainder))]
-pub fn modulo(x: i32, y: i32) -> Computed
-    ensures value { result ≡ computed (remainder x y) }
-    ensures range { mag result.value ≤ mag x }
+pub fn modulo(x: i32, y: i32) -> Result<i32, ReturnCode>
+    ensures value { answer_of result ≡ remainder x y }
+    ensures range { IfOk result (λ z. mag z ≤ mag x) }
+    ensures reason { IsOkUnless result ReturnCode.DivisorZero }
 {
     if y == 0 {
-        return Computed { code: 2, value: 0 };
+        return Err(ReturnCode::DivisorZero);
     }
-    Computed {
-        code: 0,
-        value: (i64::from(x) % i64::from(y)) as i32,
-    }
+    Ok((i64::from(x) % i64::from(y)) as i32)
 }

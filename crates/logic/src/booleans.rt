@@ -1,12 +1,12 @@
 // The Booleans: the comparisons, NOT, AND, OR, XOR, NAND and NOR. SETT writes `boolean(true)`, SETF `boolean(false)`.
-ghost use Rattle.std.specs.Prelude.{◌≡◌, not, ◌&&◌, ◌||◌, cond};
+ghost use Rattle.std.specs.Prelude.{◌≡◌, not, ◌&&◌, ◌||◌, cond, IsOkUnless};
 ghost use Rattle.std.specs.Bool.{xor};
 ghost use Rattle.std.specs.Int.Signed.{lt_z, le_z};
 ghost use Rattle.model.specs.Parameters.{eq_z, is_true, is_boolean, boolean_of};
 ghost use Rattle.model.specs.Arithmetic.{value, code, negation, logic};
-ghost use Rattle.arithmetic.specs.Answers.{computed};
+ghost use Rattle.arithmetic.specs.Answers.{answer_of};
 
-use arithmetic::Computed;
+use arithmetic::ReturnCode;
 
 // A value is truth.
 pub fn is_true(x: i32) -> bool
@@ -66,57 +66,58 @@ pub fn cmpge(x: i32, y: i32) -> i32
 }
 
 #[tactic(auto, unfolding(model::specs::Arithmetic::negation))]
-pub fn not(x: i32) -> Computed
-    ensures { result ≡ computed (negation x) }
+pub fn not(x: i32) -> Result<i32, ReturnCode>
+    ensures value { answer_of result ≡ negation x }
+    ensures reason { IsOkUnless result ReturnCode.NotBoolean }
 {
     if is_boolean(x) {
-        return Computed {
-            code: 0,
-            value: boolean(!is_true(x)),
-        };
+        return Ok(boolean(!is_true(x)));
     }
-    Computed { code: 1, value: 0 }
+    Err(ReturnCode::NotBoolean)
 }
 
 // The result b of two values, or code 1 if one of them is not Boolean.
-fn combined(x: i32, y: i32, b: bool) -> Computed
-    ensures { result ≡ computed (cond (is_boolean x && is_boolean y) (value (boolean_of b)) (code 1)) }
+fn combined(x: i32, y: i32, b: bool) -> Result<i32, ReturnCode>
+    ensures value { answer_of result ≡ cond (is_boolean x && is_boolean y) (value (boolean_of b)) (code 1) }
+    ensures reason { IsOkUnless result ReturnCode.NotBoolean }
 {
     if is_boolean(x) && is_boolean(y) {
-        return Computed {
-            code: 0,
-            value: boolean(b),
-        };
+        return Ok(boolean(b));
     }
-    Computed { code: 1, value: 0 }
+    Err(ReturnCode::NotBoolean)
 }
 
-pub fn and(x: i32, y: i32) -> Computed
-    ensures { result ≡ computed (logic ◌&&◌ x y) }
+pub fn and(x: i32, y: i32) -> Result<i32, ReturnCode>
+    ensures value { answer_of result ≡ logic ◌&&◌ x y }
+    ensures reason { IsOkUnless result ReturnCode.NotBoolean }
 {
     combined(x, y, is_true(x) & is_true(y))
 }
 
-pub fn or(x: i32, y: i32) -> Computed
-    ensures { result ≡ computed (logic ◌||◌ x y) }
+pub fn or(x: i32, y: i32) -> Result<i32, ReturnCode>
+    ensures value { answer_of result ≡ logic ◌||◌ x y }
+    ensures reason { IsOkUnless result ReturnCode.NotBoolean }
 {
     combined(x, y, is_true(x) | is_true(y))
 }
 
-pub fn xor(x: i32, y: i32) -> Computed
-    ensures { result ≡ computed (logic xor x y) }
+pub fn xor(x: i32, y: i32) -> Result<i32, ReturnCode>
+    ensures value { answer_of result ≡ logic xor x y }
+    ensures reason { IsOkUnless result ReturnCode.NotBoolean }
 {
     combined(x, y, is_true(x) ^ is_true(y))
 }
 
-pub fn nand(x: i32, y: i32) -> Computed
-    ensures { result ≡ computed (logic (λ a b. not (a && b)) x y) }
+pub fn nand(x: i32, y: i32) -> Result<i32, ReturnCode>
+    ensures value { answer_of result ≡ logic (λ a b. not (a && b)) x y }
+    ensures reason { IsOkUnless result ReturnCode.NotBoolean }
 {
     combined(x, y, !(is_true(x) & is_true(y)))
 }
 
-pub fn nor(x: i32, y: i32) -> Computed
-    ensures { result ≡ computed (logic (λ a b. not (a || b)) x y) }
+pub fn nor(x: i32, y: i32) -> Result<i32, ReturnCode>
+    ensures value { answer_of result ≡ logic (λ a b. not (a || b)) x y }
+    ensures reason { IsOkUnless result ReturnCode.NotBoolean }
 {
     combined(x, y, !(is_true(x) | is_true(y)))
 }

@@ -5,7 +5,6 @@ use Rattle.model.specs.Arithmetic.{Answer, value, code}
 use Rattle.model.specs.Parameters.{is_boolean}
 use Rattle.model.specs.Step.{State, with_ircr, blanks_of, token_of, input_answer}
 use Rattle.model.specs.Words.{kind_of, content_of, word_of, register_kind, direct_kind, shr_number}
-use Rattle.arithmetic.specs.declared.Computed.{Computed}
 use Rattle.operands.specs.Cores.{state_of}
 use Rattle.operands.specs.declared.Core.{Core}
 use Rattle.plans.specs.declared.Plan.{Plan}
@@ -63,11 +62,12 @@ kept_plan c = written_plan nowhere (pos 0) c
 unfoldable pub failed_plan : ℕ → Core → Plan
 failed_plan k c = record { value = pos 0; to = nowhere; next = record { iar = c.iar; ircr = k; top = c.top; place = c.place } }
 
--- A value or a return code, as the code computes it,
-abbrev pub computed_plan : (to : ℕ) → Computed → Core → Plan
-computed_plan to a c = record { value = a.value; to = to; next = record { iar = c.iar + 1; ircr = a.code; top = c.top; place = c.place } }
+-- A value or a return code, as the code stores it: of a plan with a code nothing else counts, so that IAR is raised either way,
+abbrev pub computed_plan : (to : ℕ) → Answer → Core → Plan
+computed_plan to (value v) c = written_plan to v c
+computed_plan to (code k) c = record { value = pos 0; to = to; next = record { iar = c.iar + 1; ircr = k; top = c.top; place = c.place } }
 
--- and as the definitions answer it, with the machine at `moved` where it succeeds.
+-- and as the definitions have it, with the machine at `moved` where it succeeds.
 abbrev pub answered_plan : (to : ℕ) (moved c : Core) → Answer → Plan
 answered_plan to moved c (value v) = written_plan to v moved
 answered_plan to moved c (code k) = failed_plan k c

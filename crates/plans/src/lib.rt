@@ -2,11 +2,12 @@
 #![tactic(auto)]
 
 ghost use Rattle.std.specs.Prelude.{◌≡◌, ◌+◌, ◌≤◌, pos, length};
+ghost use Rattle.arithmetic.specs.Answers.{answer_of};
 ghost use Rattle.bounds.specs.Bounds.{IsLimit};
 ghost use Rattle.plans.specs.Plans.{kept_plan, failed_plan, written_plan, computed_plan, jump_plan, taken_plan, boolean_plan, push_plan, pop_plan, input_plan};
 ghost use Rattle.model.specs.Parameters.{max_cells, max_instructions};
 
-use arithmetic::Computed;
+use arithmetic::ReturnCode;
 use logic::booleans::is_boolean;
 use model::words::{FIRST_DIRECT, FIRST_REGISTER, SHR};
 use numbers::reading::{NumberError, read_number};
@@ -78,12 +79,16 @@ pub fn fail(code: u32, at: Core) -> Plan
 
 // The value of a computation goes somewhere, or its code is set. Without a choice here IAR does not wait for the value.
 #[tactic(auto, unfolding(crate::specs::Plans::written_plan))]
-pub fn store_answer(to: u32, answer: Computed, at: Core) -> Plan
+pub fn store_answer(to: u32, answer: Result<i32, ReturnCode>, at: Core) -> Plan
     requires { at.iar ≤ max_instructions }
-    ensures { result ≡ computed_plan to answer at }
+    ensures { result ≡ computed_plan to (answer_of answer) at }
 {
-    let mut plan = store(to, answer.value, at);
-    plan.next.ircr = answer.code;
+    let (value, code) = match answer {
+        Ok(value) => (value, 0),
+        Err(code) => (0, u32::from(code)),
+    };
+    let mut plan = store(to, value, at);
+    plan.next.ircr = code;
     plan
 }
 

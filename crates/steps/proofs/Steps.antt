@@ -17,7 +17,6 @@ use Rattle.model.specs.Parameters.{max_cells, limit, is_boolean, is_true}
 use Rattle.model.specs.Step.{Environment, State, with_iar, with_ircr, with_shr, with_place, with_registers, with_cells, register_value, value_of, store, argument_at, Effect, succeeds, fails, next, stores, jump_to, push, pop, blanks_of, token_of, input_answer, input, execute, settled, written_by}
 use Rattle.model.specs.Words.{Cell, kind_of, register_kind, direct_kind, number_kind, content_of, shr_number, number_of, word_of}
 use Rattle.model.specs.declared.Parameters.{Parameters}
-use Rattle.arithmetic.specs.Answers.{computed}
 use Rattle.operands.specs.Cores.{state_of}
 use Rattle.operands.specs.declared.Core.{Core}
 use Rattle.steps.specs.Choices.{plan_of}
@@ -122,7 +121,7 @@ module _ (registers cells : List ℤ) where
 
   -- A value or a code, as the code computes it.
   computed-does : (m : ℕ) (at : Core) (w : ℕ) (a : Answer) → Good m a → Named w →
-      Does at (computed_plan w (computed a) at) (stores w (state_of at registers cells) a) []
+      Does at (computed_plan w a at) (stores w (state_of at registers cells) a) []
   unfolding planned written_plan
   computed-does m at w (value v) g h = written-does at at w v h
   computed-does m at w (code k) g h = record { step = rw (ne_eqb k 0 (omega (arith, g.0))); values = values-named w _ h; silent = λ n. refl }

@@ -6,7 +6,6 @@ use Rattle.model.specs.Parameters.{limit, is_true}
 use Rattle.model.specs.Step.{value_of, argument_at}
 use Rattle.model.specs.Words.{Cell}
 use Rattle.model.specs.declared.Parameters.{Parameters}
-use Rattle.arithmetic.specs.Answers.{computed}
 use Rattle.bounds.specs.Bounds.{IsLimit, Within}
 use Rattle.operands.specs.Cores.{state_of, Bounded}
 use Rattle.operands.specs.declared.Core.{Core}
@@ -26,7 +25,7 @@ module _ (p : Parameters) (input : List ℕ) (at : Core) (registers cells : List
   plan_of pops c x y = pop_plan c.first p.b at cells
   plan_of skips c x y = jump_plan p.t (pos (at.iar + 2)) at
   plan_of idles c x y = kept_plan at
-  plan_of (writes to f) c x y = computed_plan (argument_at to c) (computed (f (limit p.k) x y)) at
+  plan_of (writes to f) c x y = computed_plan (argument_at to c) (f (limit p.k) x y) at
   plan_of (jumps test) c x y = taken_plan (test y (value_of (state_of at registers cells) c.third)) p.t x at
   plan_of (jumps_on b) c x y = boolean_plan y (beq (is_true y) b) p.t x at
 

@@ -2,5 +2,5 @@ use mathlib.Core.Bool.{◌&&◌}
 use Rattle.logic.proofs.Combined.{combine}
 use Rattle.logic.proofs.booleans.and.Goals as goal
 
-pub returns : goal.returns
-returns c = combine c.ranges.x c.ranges.y ◌&&◌ c.is_true.ensures c.is_true-2.ensures c.combined.ensures
+pub returns-clause-value : goal.returns-clause-value
+returns-clause-value c = combine c.ranges.x c.ranges.y ◌&&◌ c.is_true.ensures c.is_true-2.ensures c.combined.ensures.value

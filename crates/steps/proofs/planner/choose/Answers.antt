@@ -17,8 +17,6 @@ use Rattle.model.specs.Arithmetic.{Answer, value}
 use Rattle.model.specs.Instructions.{Position, Operation, row_of, writes, jumps, jumps_on, instruction_count}
 use Rattle.model.specs.Parameters.{limit, is_true, eq_z}
 use Rattle.model.specs.Step.{value_of, argument_at}
-use Rattle.arithmetic.specs.Answers.{computed}
-use Rattle.arithmetic.specs.declared.Computed.{Computed}
 use Rattle.bounds.proofs.Integers.{eq_z-bits}
 use Rattle.bounds.specs.Bounds.{Within}
 use Rattle.image.specs.Decode.{cell_from}
@@ -78,8 +76,8 @@ module _ (i : Instruction) {x y : ℤ} {p : Parameters} {m : ℕ} {at : Core} {r
 
     -- A computation's answer is stored.
     stored : {to : Position} {f : ℕ → ℤ → ℤ → Answer} → (row_of n).operation ≡ writes to f →
-        {a : Computed} → a ≡ computed (f m x' y') → r ≡ computed_plan (target to) a at → Chosen r
-    stored {to} {f} q g h = by_row q (h ∙ ap (λ (a : Computed). computed_plan (target to) a at) (g ∙ ap computed (handed f)))
+        {a : Answer} → a ≡ f m x' y' → r ≡ computed_plan (target to) a at → Chosen r
+    stored {to} {f} q g h = by_row q (h ∙ ap (λ (a : Answer). computed_plan (target to) a at) (g ∙ handed f))
 
     -- A comparison with the third value jumps.
     jumped : {test : ℤ → ℤ → Bool} → (row_of n).operation ≡ jumps test →
@@ -144,27 +142,27 @@ returns-in-12 c = written c.args.i c.requires c.ranges.x c.ranges.y c.in-12.is r
 
 pub returns-in-13 : goal.returns-in-13
 unfolding row_of written_plan
-returns-in-13 c = stored c.args.i c.requires c.ranges.x c.ranges.y c.in-13.is refl c.not.ensures c.store_answer.ensures
+returns-in-13 c = stored c.args.i c.requires c.ranges.x c.ranges.y c.in-13.is refl c.not.ensures.value c.store_answer.ensures
 
 pub returns-in-14 : goal.returns-in-14
 unfolding row_of written_plan
-returns-in-14 c = stored c.args.i c.requires c.ranges.x c.ranges.y c.in-14.is refl c.and.ensures c.store_answer-in-14.ensures
+returns-in-14 c = stored c.args.i c.requires c.ranges.x c.ranges.y c.in-14.is refl c.and.ensures.value c.store_answer-in-14.ensures
 
 pub returns-in-15 : goal.returns-in-15
 unfolding row_of written_plan
-returns-in-15 c = stored c.args.i c.requires c.ranges.x c.ranges.y c.in-15.is refl c.or.ensures c.store_answer-in-15.ensures
+returns-in-15 c = stored c.args.i c.requires c.ranges.x c.ranges.y c.in-15.is refl c.or.ensures.value c.store_answer-in-15.ensures
 
 pub returns-in-16 : goal.returns-in-16
 unfolding row_of written_plan
-returns-in-16 c = stored c.args.i c.requires c.ranges.x c.ranges.y c.in-16.is refl c.xor.ensures c.store_answer-in-16.ensures
+returns-in-16 c = stored c.args.i c.requires c.ranges.x c.ranges.y c.in-16.is refl c.xor.ensures.value c.store_answer-in-16.ensures
 
 pub returns-in-17 : goal.returns-in-17
 unfolding row_of written_plan
-returns-in-17 c = stored c.args.i c.requires c.ranges.x c.ranges.y c.in-17.is refl c.nand.ensures c.store_answer-in-17.ensures
+returns-in-17 c = stored c.args.i c.requires c.ranges.x c.ranges.y c.in-17.is refl c.nand.ensures.value c.store_answer-in-17.ensures
 
 pub returns-in-18 : goal.returns-in-18
 unfolding row_of written_plan
-returns-in-18 c = stored c.args.i c.requires c.ranges.x c.ranges.y c.in-18.is refl c.nor.ensures c.store_answer-in-18.ensures
+returns-in-18 c = stored c.args.i c.requires c.ranges.x c.ranges.y c.in-18.is refl c.nor.ensures.value c.store_answer-in-18.ensures
 
 pub returns-in-19 : goal.returns-in-19
 unfolding row_of written_plan
