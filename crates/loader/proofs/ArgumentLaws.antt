@@ -1,6 +1,6 @@
 -- An argument by its first letters, and its word at a place. Assumes nothing.
-use Prim.Native.Nat.{ℕ, suc, ◌+◌, ◌/◌, ◌%◌, ◌^◌, ◌≤◌, ◌<◌, min}
-use mathlib.Core.Path.{◌≡◌, refl, ap, ◌∙◌}
+use Prim.Native.Nat.{ℕ, suc, ◌+◌, ◌^◌, ◌≤◌, ◌<◌, min}
+use mathlib.Core.Path.{◌≡◌, refl, sym, ap, ◌∙◌}
 use mathlib.Core.Bool.{Bool, true, false, cond, true≢false}
 use mathlib.Core.List.{List, [], ◌∷◌}
 use mathlib.Core.Option.{Option, none, some}
@@ -16,14 +16,17 @@ use Rattle.model.specs.declared.Parameters.{Parameters}
 use Rattle.model.specs.Parameters.{limit, max_cells, in_range}
 use Rattle.model.specs.Numbers.{bytes, upper, mapped, natural, number}
 use Rattle.model.specs.Words.{Argument, register, special, direct, literal, argument_word, register_kind, direct_kind, number_kind, iar_number, ircr_number, shr_number, word_of, number_bits}
-use Rattle.model.specs.Load.{same_word, special_of, after_d, plain, argument, fine, fault, allows, is_within, checked_argument}
+use Rattle.model.specs.Load.{same_word, special_of, after_d, plain, argument, Checked, fine, fault, allows, is_within, checked_argument}
 use Rattle.bounds.proofs.Integers.{sub_ge}
-use Rattle.numbers.specs.declared.reading.Reading.{Reading}
-use Rattle.numbers.specs.declared.reading.Reading.TheVariants.{NotANumber, Number, Outside}
+use Rattle.std.proofs.Common.{Result, Ok, Err}
+use Rattle.std.proofs.Common as rust
+use Rattle.std.specs.Option.{option_map}
+use Rattle.std.specs.List.{position}
+use Rattle.loader.specs.Keys.{Finds}
+use Rattle.numbers.specs.declared.reading.NumberError.{NumberError}
+use Rattle.numbers.specs.declared.reading.NumberError.TheVariants.{NotANumber, Outside}
 use Rattle.numbers.specs.Reading.{capped, reading_of}
-use Rattle.loader.specs.declared.arguments.WordOrFault.{WordOrFault}
-use Rattle.loader.specs.declared.arguments.WordOrFault.TheVariants.{Word, Fault}
-use Rattle.loader.specs.Faults.{word_or_fault_of, indexed_of}
+use Rattle.loader.specs.Faults.{indexed_of}
 
 -- THE FIRST LETTERS
 pub special_choice : (w : List ℕ) →
@@ -48,6 +51,18 @@ special-high w = rw (special_choice w) (go (same_word w (bytes "IAR")) (same_wor
     go false true c = omega arith
     go false false true = omega arith
     go false false false = omega arith
+
+-- The first of three names.
+first-of : (a b c : Bool) (r : rust.Option ℕ) → r ≡ position (λ (x : Bool). x) (a ∷ b ∷ c ∷ []) →
+    Finds (option_map (λ (i : ℕ). iar_number + i) r) (cond a iar_number (cond b ircr_number (cond c shr_number 0)))
+first-of true b c r e = rw e (refl, omega arith)
+first-of false true c r e = rw e (refl, omega arith)
+first-of false false true r e = rw e (refl, omega arith)
+first-of false false false r e = rw e refl
+
+pub special-found : (w : List ℕ) {r o : rust.Option ℕ} → r ≡ position (same_word w) (bytes "IAR" ∷ bytes "IRCR" ∷ bytes "SHR" ∷ []) → r ≡ o →
+    Finds (option_map (λ (i : ℕ). iar_number + i) o) (special_of w)
+special-found w e q = rw (special_choice w) (first-of _ _ _ _ (sym q ∙ e))
 
 no_special : (b : ℕ) (s : List ℕ) → ¬ (upper b ≡ 73) → ¬ (upper b ≡ 83) → special_of (b ∷ s) ≡ 0
 unfolding same_word
@@ -100,7 +115,7 @@ module _ (w : List ℕ) (inside : 1 < length w) where
 
 -- THE WORD AT A PLACE
 -- A form that is not allowed, whatever it says.
-barred : {A : Type 0} (p : Parameters) (form : ℕ) (make : A → Argument) → ((a : A) → allows form (make a) ≡ false) → (o : Option A) →
+pub barred : {A : Type 0} (p : Parameters) (form : ℕ) (make : A → Argument) → ((a : A) → allows form (make a) ≡ false) → (o : Option A) →
     checked_argument p form (mapped make o) ≡ fault 13
 barred p form make h none = refl
 barred p form make h (some a) = simp (h a)
@@ -108,11 +123,11 @@ barred p form make h (some a) = simp (h a)
 -- A register or a cell: what is lost above the cap is no index below the count.
 module _ (p : Parameters) (form kind count : ℕ) (make : ℕ → Argument) (few : count ≤ max_cells) where
   index-checked : ((v : ℕ) → allows form (make v) ≡ true) → ((v : ℕ) → is_within p (make v) ≡ ltb v count) →
-      ((v : ℕ) → argument_word (make v) ≡ word_of kind v) → (o : Option ℕ) → indexed_of kind count (capped o) ≡ word_or_fault_of (checked_argument p form (mapped make o))
+      ((v : ℕ) → argument_word (make v) ≡ word_of kind v) → (o : Option ℕ) → indexed_of kind count (capped o) ≡ checked_argument p form (mapped make o)
   index-checked a i e none = refl
   index-checked a i e (some v) = go (dec_lt v count)
     where
-      go : Dec (v < count) → indexed_of kind count (capped (some v)) ≡ word_or_fault_of (checked_argument p form (some (make v)))
+      go : Dec (v < count) → indexed_of kind count (capped (some v)) ≡ checked_argument p form (some (make v))
       go (yes l) = let q : min (2 ^ 30) v ≡ v = omega arith in simp (q, a v, i v, lt-ltb v count l, e v)
       go (no g) =
           let h : count ≤ min (2 ^ 30) v = omega arith in
@@ -120,53 +135,37 @@ module _ (p : Parameters) (form kind count : ℕ) (make : ℕ → Argument) (few
           simp (a v, i v, le-ltb v count k, le-ltb (min (2 ^ 30) v) count h)
 
 -- What is read as a number, at a place that allows one.
-abbrev pub numbered : Reading → WordOrFault
-numbered NotANumber = Fault 13
-numbered (Number z) = Word (word_of number_kind (number_bits z))
-numbered Outside = Fault 14
+abbrev pub numbered : Result ℤ NumberError → Checked ℕ
+numbered (Ok z) = fine (word_of number_kind (number_bits z))
+numbered (Err NotANumber) = fault 13
+numbered (Err Outside) = fault 14
 
 module _ (p : Parameters) (form : ℕ) where
-  pub register-barred : ¬ (form % 2 ≡ 1) → (o : Option ℕ) → checked_argument p form (mapped register o) ≡ fault 13
-  unfolding allows
-  register-barred h o = barred p form register (λ v. ne_eqb _ _ h) o
+  pub register-checked : ((v : ℕ) → allows form (register v) ≡ true) → p.n ≤ max_cells → (o : Option ℕ) →
+      indexed_of register_kind p.n (capped o) ≡ checked_argument p form (mapped register o)
+  unfolding is_within
+  register-checked h l o = index-checked p form register_kind p.n register l h (λ v. refl) (λ v. refl) o
 
-  pub register-checked : form % 2 ≡ 1 → p.n ≤ max_cells → (o : Option ℕ) →
-      indexed_of register_kind p.n (capped o) ≡ word_or_fault_of (checked_argument p form (mapped register o))
-  unfolding allows is_within
-  register-checked h l o = index-checked p form register_kind p.n register l (λ v. eq-eqb _ _ h) (λ v. refl) (λ v. refl) o
+  pub direct-checked : ((v : ℕ) → allows form (direct v) ≡ true) → p.b ≤ max_cells → (o : Option ℕ) →
+      indexed_of direct_kind p.b (capped o) ≡ checked_argument p form (mapped direct o)
+  unfolding is_within
+  direct-checked h l o = index-checked p form direct_kind p.b direct l h (λ v. refl) (λ v. refl) o
 
-  pub direct-barred : ¬ (form / 4 % 2 ≡ 1) → (o : Option ℕ) → checked_argument p form (mapped direct o) ≡ fault 13
-  unfolding allows
-  direct-barred h o = barred p form direct (λ v. ne_eqb _ _ h) o
+  pub special-checked : (r : ℕ) → allows form (special r) ≡ true → checked_argument p form (some (special r)) ≡ fine (word_of register_kind r)
+  unfolding is_within
+  special-checked r h = simp h
 
-  pub direct-checked : form / 4 % 2 ≡ 1 → p.b ≤ max_cells → (o : Option ℕ) →
-      indexed_of direct_kind p.b (capped o) ≡ word_or_fault_of (checked_argument p form (mapped direct o))
-  unfolding allows is_within
-  direct-checked h l o = index-checked p form direct_kind p.b direct l (λ v. eq-eqb _ _ h) (λ v. refl) (λ v. refl) o
-
-  pub special-barred : ¬ (form / 2 % 2 ≡ 1) → (r : ℕ) → checked_argument p form (some (special r)) ≡ fault 13
-  unfolding allows
-  special-barred h r = simp (ne_eqb _ _ h)
-
-  pub special-checked : form / 2 % 2 ≡ 1 → (r : ℕ) → checked_argument p form (some (special r)) ≡ fine (word_of register_kind r)
-  unfolding allows is_within
-  special-checked h r = simp h
-
-  pub number-barred : ¬ (form / 8 % 2 ≡ 1) → (o : Option ℤ) → checked_argument p form (mapped literal o) ≡ fault 13
-  unfolding allows
-  number-barred h o = barred p form literal (λ v. ne_eqb _ _ h) o
-
-  number-checked : form / 8 % 2 ≡ 1 → (o : Option ℤ) → numbered (reading_of (limit p.k) o) ≡ word_or_fault_of (checked_argument p form (mapped literal o))
-  unfolding allows is_within
+  number-checked : ((z : ℤ) → allows form (literal z) ≡ true) → (o : Option ℤ) → numbered (reading_of (limit p.k) o) ≡ checked_argument p form (mapped literal o)
+  unfolding is_within
   number-checked h none = refl
-  number-checked h (some z) = simp h (go (in_range (limit p.k) z))
+  number-checked h (some z) = simp (h z) (go (in_range (limit p.k) z))
     where
-      go : (b : Bool) → numbered (cond b (Number z) Outside) ≡ word_or_fault_of (cond b (fine (word_of number_kind (number_bits z))) (fault 14))
+      go : (b : Bool) → numbered (cond b (Ok z) (Err Outside)) ≡ cond b (fine (word_of number_kind (number_bits z))) (fault 14)
       go true = refl
       go false = refl
 
-  pub number_read : form / 8 % 2 ≡ 1 → {m : ℕ} → m ≡ limit p.k → (o : Option ℤ) {r : Reading} → r ≡ reading_of m o →
-      numbered r ≡ word_or_fault_of (checked_argument p form (mapped literal o))
+  pub number_read : ((z : ℤ) → allows form (literal z) ≡ true) → {m : ℕ} → m ≡ limit p.k → (o : Option ℤ) {r : Result ℤ NumberError} → r ≡ reading_of m o →
+      numbered r ≡ checked_argument p form (mapped literal o)
   number_read h e o q = ap numbered q ∙ ap (λ (m : ℕ). numbered (reading_of m o)) e ∙ number-checked h o
 
 -- The word of a number, as the code works it out.

@@ -1,5 +1,5 @@
 pub mod NameLaws
 pub mod ArgumentLaws
 pub mod LineLaws
-pub mod TextLaws
 pub mod LoadLaws
+pub mod TextLaws

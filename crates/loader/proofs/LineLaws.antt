@@ -20,8 +20,6 @@ use Rattle.image.proofs.FitLaws.{are_packed, rows-packable}
 use Rattle.text.specs.Parts.{part}
 use Rattle.text.specs.Words.{NextWord}
 use Rattle.text.proofs.Walks.{first_word}
-use Rattle.loader.specs.declared.arguments.WordOrFault.TheVariants.{Word, Fault}
-use Rattle.loader.specs.Faults.{word_or_fault_of}
 use Rattle.loader.specs.Lines.{form_count, counted}
 
 -- PACKED FORMS
@@ -114,15 +112,6 @@ line_known p w ws h = simp (line_cell, ne_eqb _ _ h) (go (eqb (length ws) (lengt
     go false = refl
 
 -- THE LOOP
--- A word or a fault that was found is that of the definition.
-checked-word : (o : Checked ℕ) (x : ℕ) → word_or_fault_of o ≡ Word x → o ≡ fine x
-checked-word (fine y) x e = cc
-checked-word (fault k) x e = let z : ◌≡◌ {A = ℕ} 0 1 = cc in absurd (omega arith)
-
-checked-fault : (o : Checked ℕ) (k : ℕ) → word_or_fault_of o ≡ Fault k → o ≡ fault k
-checked-fault (fine y) k e = let z : ◌≡◌ {A = ℕ} 0 1 = cc in absurd (omega arith)
-checked-fault (fault j) k e = cc
-
 -- Zeros behind a list are what is read there anyway.
 get_d-zeros : (xs : List ℕ) (k j : ℕ) → get_or (xs ++ replicate k 0) j 0 ≡ get_or xs j 0
 get_d-zeros [] zero j = refl
@@ -237,16 +226,16 @@ module _ (p : Parameters) (n : ℕ) (l : List ℕ) (from : ℕ) where
       few-others : i + 1 + length (left h).others ≤ 3
       few-others = omega (arith, s.few, ap length (left h).is)
 
-      pub at-fault : (k : ℕ) → word_or_fault_of (checked_argument p (rest % 16) (argument (part a b l))) ≡ Fault k →
+      pub at-fault : (k : ℕ) → checked_argument p (rest % 16) (argument (part a b l)) ≡ fault k →
           counted p n [] (row_of n).forms (words (drop from l)) ≡ cond (eqb (length (words (drop b l))) (form_count (rest / 16))) (fault k) (fault 12)
       at-fault k e =
           let others = (left h).others in
           let q : form_count (rest / 16) ≡ length others = ap form_count split.2 ∙ count-forms others split.0 (omega (arith, few-others)) in
           step
-          ∙ counted-fault p n s.done (rest % 16) others (part a b l) (words (drop b l)) k (checked-fault _ k e)
+          ∙ counted-fault p n s.done (rest % 16) others (part a b l) (words (drop b l)) k e
           ∙ ap (λ (m : ℕ). cond (eqb (length (words (drop b l))) m) (fault k) (fault 12)) (sym q)
 
-      pub at-word : (x : ℕ) → word_or_fault_of (checked_argument p (rest % 16) (argument (part a b l))) ≡ Word x → ArgumentsInvariant p n l from (set slots i x) b (rest / 16) (i + 1)
+      pub at-word : (x : ℕ) → checked_argument p (rest % 16) (argument (part a b l)) ≡ fine x → ArgumentsInvariant p n l from (set slots i x) b (rest / 16) (i + 1)
       at-word x e =
           let others = (left h).others in
           record {
@@ -261,7 +250,7 @@ module _ (p : Parameters) (n : ℕ) (l : List ℕ) (from : ℕ) where
                 ap (λ (xs : List ℕ). set xs i x) (s.stored ∙ ap (λ (k : ℕ). s.done ++ replicate k 0) more)
                 ∙ set_at s.done 0 (replicate (3 - (i + 1)) 0) x i s.count
                 ∙ sym (append_snoc s.done x (replicate (3 - (i + 1)) 0));
-            same = step ∙ counted-word p n s.done (rest % 16) others (part a b l) (words (drop b l)) x (checked-word _ x e);
+            same = step ∙ counted-word p n s.done (rest % 16) others (part a b l) (words (drop b l)) x e;
           }
         where
           more : 3 - i ≡ suc (3 - (i + 1))

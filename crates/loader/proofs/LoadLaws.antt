@@ -1,7 +1,6 @@
 -- Load's reply and its image, check by check. Assumes nothing.
 use Prim.Native.Nat.{ℕ, zero, suc, ◌*◌, ◌≤◌, ◌<◌}
-use mathlib.Core.Path.{◌≡◌, refl, sym, ap, subst, ◌∙◌}
-use mathlib.Core.Bool.{true}
+use mathlib.Core.Path.{◌≡◌, refl, sym, ap, ◌∙◌}
 use mathlib.Core.List.{List, [], ◌∷◌}
 use native.Mathlib.Omega.{arith}
 use lib.Dec.{leb}
@@ -9,18 +8,41 @@ use lib.ListN.{length}
 use borrow.Author.Tests.{eq-eqb, ne_eqb, le-leb, lt-leb}
 use Rattle.model.specs.declared.Parameters.{Parameters}
 use Rattle.model.specs.Load.{LoadReply}
-use Rattle.model.specs.Load.{Accepted, Refused}
+use Rattle.model.specs.declared.Refusal.{Refusal}
+use Rattle.model.specs.declared.Refusal.TheVariants as refusal
+use Rattle.model.specs.Replies.{number_of}
+use Rattle.model.specs.Load.{Refused}
 use Rattle.model.specs.Parameters.{Check, ◌unless◌, refusal_of, parameter_checks, Fit, max_text}
-use Rattle.model.specs.Load.{length_check, text_reply, load_checks, load_reply, image_after, load_numbers, numbers_of_load}
+use Rattle.model.specs.Load.{length_check, text_reply, load_checks, load_reply, load_numbers, numbers_of_load}
 use Rattle.model.proofs.Fits.{all_fit, parameters-numbered, refusal-first, refusal-later}
 use Rattle.model.proofs.LoadNumbers.{load-numbers}
 use Rattle.model.proofs.Refusals.{load-refused-first}
-use Rattle.loader.specs.Passes.{Filled}
+
+-- A refusal has a number.
+pub has-number : (r : Refusal) → ¬ (number_of r ≡ 0)
+has-number refusal.ParameterK e = absurd (omega arith)
+has-number refusal.ParameterN e = absurd (omega arith)
+has-number refusal.ParameterS e = absurd (omega arith)
+has-number refusal.ParameterB e = absurd (omega arith)
+has-number refusal.ParameterT e = absurd (omega arith)
+has-number refusal.ImageLength e = absurd (omega arith)
+has-number refusal.TextLength e = absurd (omega arith)
+has-number refusal.LineCount e = absurd (omega arith)
+has-number refusal.MemoryLength e = absurd (omega arith)
+has-number refusal.Image e = absurd (omega arith)
+has-number refusal.Instruction e = absurd (omega arith)
+has-number refusal.ArgumentCount e = absurd (omega arith)
+has-number refusal.ArgumentForm e = absurd (omega arith)
+has-number refusal.ArgumentRange e = absurd (omega arith)
+has-number refusal.Record e = absurd (omega arith)
+has-number refusal.InputLength e = absurd (omega arith)
+has-number refusal.Cycles e = absurd (omega arith)
+has-number refusal.DecimalLength e = absurd (omega arith)
 
 module _ (p : Parameters) (text old : List ℕ) where
   -- A reply with the paper's numbers.
-  pub answered : {r : LoadReply} → r ≡ load_reply p text old → (r ≡ load_reply p text old) × (load_numbers r ≡ numbers_of_load p text old)
-  answered e = (e, ap load_numbers e ∙ load-numbers p text old)
+  pub numbered : {r : LoadReply} → r ≡ load_reply p text old → load_numbers r ≡ numbers_of_load p text old
+  numbered e = ap load_numbers e ∙ load-numbers p text old
 
   -- A refusal by the checks, and a text that they pass.
   refused : (r : ℕ) → ¬ (r ≡ 0) → refusal_of (load_checks p text old) ≡ r → Refused r 0 ≡ load_reply p text old
@@ -51,10 +73,3 @@ module _ (p : Parameters) (text old : List ℕ) where
 
     pub by_lines : length old ≡ 4 * p.t → length text ≤ max_text → {r : LoadReply} → r ≡ text_reply p text → r ≡ load_reply p text old
     by_lines e h q = q ∙ sym (passed (behind ∙ simp (eq-eqb _ _ e, le-leb _ _ h)))
-
-  -- The image of an accepted text is the one that a pass fills; that of a refused one stays.
-  pub image-written : (empty new : List ℕ) {r : LoadReply} {n : ℕ} → r ≡ Accepted n → Filled true p text empty new r → new ≡ image_after p text old r
-  image-written empty new e h = subst (Filled true p text empty new) e h ∙ sym (ap (image_after p text old) e)
-
-  pub image-kept : {r : LoadReply} {k i : ℕ} → r ≡ Refused k i → old ≡ image_after p text old r
-  image-kept e = sym (ap (image_after p text old) e)

@@ -14,7 +14,10 @@ use borrow.Author.Tests.{eq-eqb, ne_eqb, eqb-true, ltb-true, lt-leb}
 use Rattle.model.specs.Numbers.{bytes, upper}
 use Rattle.model.specs.Load.{same_word, lookup_from, names, lookup}
 use Rattle.model.proofs.Fits.{both, and_both, by_cond}
-use Rattle.loader.specs.Keys.{key_from, key_of, key_table, slot_of, slotted, place_from}
+use Rattle.loader.specs.Keys.{key_from, key_of, key_table, slot_of, slotted, place_from, Finds}
+use Rattle.std.proofs.Common.{Option, Some}
+use Rattle.std.specs.List.{list_all, zip, position}
+use Rattle.std.specs.Option.{option_map}
 
 -- BYTE BY BYTE
 pub other_length : (w n : List ℕ) → ¬ (length w ≡ length n) → same_word w n ≡ false
@@ -24,19 +27,15 @@ other_length [] (y ∷ ys) h = refl
 other_length (x ∷ xs) [] h = refl
 other_length (x ∷ xs) (y ∷ ys) h = simp (same_word, other_length xs ys (λ e. h (ap suc e)), and-false)
 
-module _ (w n : List ℕ) (i : ℕ) where
-  pub same_end : length w ≤ i → length n ≤ i → same_word (drop i w) (drop i n) ≡ true
-  unfolding same_word
-  same_end p q = rw (drop_of_length-le w p, drop_of_length-le n q)
+abbrev pub same-byte : ℕ × ℕ → Bool
+same-byte p = eqb (upper p.0) p.1
 
-  pub same_byte : i < length w → i < length n → upper (get_or w i 0) ≡ get_or n i 0 →
-      same_word (drop i w) (drop i n) ≡ same_word (drop (i + 1) w) (drop (i + 1) n)
-  unfolding same_word
-  same_byte p q e = rw (add-one, drop-cons w i 0 p, drop-cons n i 0 q) (simp (same_word, eq-eqb _ _ e))
-
-  pub other_byte : i < length w → i < length n → ¬ (upper (get_or w i 0) ≡ get_or n i 0) → same_word (drop i w) (drop i n) ≡ false
-  unfolding same_word
-  other_byte p q e = rw (drop-cons w i 0 p, drop-cons n i 0 q) (simp (same_word, ne_eqb _ _ e))
+pub same_length : (w n : List ℕ) → length w ≡ length n → list_all same-byte (zip w n) ≡ same_word w n
+unfolding same_word
+same_length [] [] h = refl
+same_length [] (y ∷ ys) h = absurd (omega arith)
+same_length (x ∷ xs) [] h = absurd (omega arith)
+same_length (x ∷ xs) (y ∷ ys) h = ap (λ (b : Bool). eqb (upper x) y && b) (same_length xs ys (omega arith))
 
 -- KEYS
 pub key-end : (k : ℕ) (w : List ℕ) (i : ℕ) → length w ≤ i → key_from k (drop i w) ≡ k
@@ -183,7 +182,7 @@ name_choice k w n ns = go (same_word w n) refl
     go true e = name_here k w n ns e
     go false e = name-later k w n ns e
 
-pub long-word : (w : List ℕ) → 8 ≤ length w →
+long-word : (w : List ℕ) → 8 ≤ length w →
     lookup w
     ≡ cond (same_word w (bytes "CLEAR_REG")) 1
     (cond (same_word w (bytes "CLEAR_DATA_MEM")) 2 (cond (same_word w (bytes "DUMP_REG")) 3 (cond (same_word w (bytes "DUMP_DATA_MEM")) 4 0)))
@@ -197,6 +196,20 @@ long-word w h =
     (name_choice 3 w _ (drop 3 names)
     ∙ ap (cond (same_word w (bytes "DUMP_REG")) 3)
     (name_choice 4 w _ (drop 4 names) ∙ ap (cond (same_word w (bytes "DUMP_DATA_MEM")) 4) short)))
+
+-- The first of four tests that passes, counted from 1.
+first-of : (a b c d : Bool) (r : Option ℕ) → r ≡ position (λ (x : Bool). x) (a ∷ b ∷ c ∷ d ∷ []) →
+    Finds (option_map (λ (i : ℕ). 1 + i) r) (cond a 1 (cond b 2 (cond c 3 (cond d 4 0))))
+first-of true b c d r e = rw e (refl, omega arith)
+first-of false true c d r e = rw e (refl, omega arith)
+first-of false false true d r e = rw e (refl, omega arith)
+first-of false false false true r e = rw e (refl, omega arith)
+first-of false false false false r e = rw e refl
+
+pub long-found : (w : List ℕ) → 8 ≤ length w → {r o : Option ℕ} →
+    r ≡ position (same_word w) (bytes "CLEAR_REG" ∷ bytes "CLEAR_DATA_MEM" ∷ bytes "DUMP_REG" ∷ bytes "DUMP_DATA_MEM" ∷ []) → r ≡ o →
+    Finds (option_map (λ (i : ℕ). 1 + i) o) (lookup w)
+long-found w h e q = rw (long-word w h) (first-of _ _ _ _ _ (sym q ∙ e))
 
 pub table-length : length key_table ≡ 50
 unfolding key_table names
@@ -230,8 +243,8 @@ module _ (slots : List ℕ) (h : slotted 0 slots key_table ≡ true) (key s : �
   only : (j : ℕ) → j < length key_table → get_or key_table j 0 ≡ key → s ≡ j
   only j l q = sym e ∙ ap (λ (k : ℕ). get_or slots (slot_of k) 0) (sym q) ∙ slot-rule 0 slots key_table h j l ∙ zero-add j
 
-  pub slot-found : s < length key_table → get_or key_table s 0 ≡ key → place_from 5 key key_table ≡ s + 5
-  slot-found l q = present 5 key key_table s l q (λ j m z. let o = only j (omega arith) z in absurd (omega arith))
+  pub slot-found : s < length key_table → get_or key_table s 0 ≡ key → Finds (Some (s + 5)) (place_from 5 key key_table)
+  slot-found l q = let e = present 5 key key_table s l q (λ j m z. let o = only j (omega arith) z in absurd (omega arith)) in (sym e, omega (arith, e))
 
   pub slot_past : length key_table ≤ s → place_from 5 key key_table ≡ 0
   slot_past l = absent 5 key key_table (λ j m z. let o = only j m z in absurd (omega arith))

@@ -1,5 +1,5 @@
 -- A text line by line, as the loops over it meet it: what it is refused for, and the cells that it fills. Assumes nothing.
-use Prim.Native.Nat.{ℕ, zero, suc, ◌+◌, ◌*◌, ◌-◌, ◌≤◌, ◌<◌}
+use Prim.Native.Nat.{ℕ, suc, ◌+◌, ◌*◌, ◌-◌, ◌≤◌, ◌<◌}
 use mathlib.Core.Path.{◌≡◌, refl, sym, ap, subst, ◌∙◌}
 use mathlib.Core.Bool.{Bool, true, false, cond, true≢false}
 use mathlib.Core.List.{List, [], ◌∷◌, ◌++◌, append_assoc, append-nil}
@@ -8,19 +8,16 @@ use native.Mathlib.Numerals.{add-one}
 use native.Mathlib.Omega.{arith}
 use lib.Arith.{lt_of_le-ne}
 use lib.Dec.{leb}
-use lib.ListN.{length, get_or, set, drop, replicate, length-append, length-replicate}
-use lib.Seq.{sets, set_at, append_snoc, drop-cons}
+use lib.ListN.{length, set, drop, replicate, length-append}
+use lib.Seq.{sets, set_at, append_snoc}
 use borrow.Author.Tests.{le-leb, lt-leb}
 use Rattle.model.specs.declared.Parameters.{Parameters}
 use Rattle.model.specs.Load.{LoadReply}
 use Rattle.model.specs.Load.{Accepted, Refused}
 use Rattle.model.specs.Words.{Cell, cell_words}
-use Rattle.model.specs.Load.{Checked, fine, fault, lines, line_of, lines_reply, words_of, lines_words, text_reply, image_of}
+use Rattle.model.specs.Load.{fine, fault, lines, line_of, lines_reply, words_of, lines_words, text_reply, image_of}
 use Rattle.text.specs.Parts.{part}
 use Rattle.text.specs.Lines.{NextLine}
-use Rattle.loader.specs.declared.line.Parsed.{Parsed}
-use Rattle.loader.specs.declared.line.Parsed.TheVariants.{Words, Fault}
-use Rattle.loader.specs.Lines.{parsed_of}
 use Rattle.loader.specs.Passes.{Ready, Filled}
 
 -- THE REPLY
@@ -47,19 +44,6 @@ module _ (p : Parameters) (i : ℕ) where
     reply-fault : (k : ℕ) → line_of p l ≡ fault k → reply_from p i (l ∷ ls) ≡ cond (leb (i + 1 + length ls) p.t) (Refused k i) (Refused 8 0)
     unfolding lines_reply
     reply-fault k e = rw more (simp (lines_reply, e))
-
--- A cell or a fault that was found is that of the definition.
-abbrev words_in : Parsed → List ℕ
-words_in (Words h a b c) = h ∷ a ∷ b ∷ c ∷ []
-words_in (Fault k) = []
-
-parsed-words : (o : Checked Cell) (h a b c : ℕ) → parsed_of o ≡ Words h a b c → (d : Cell) × (o ≡ fine d) × (cell_words d ≡ h ∷ a ∷ b ∷ c ∷ [])
-parsed-words (fine d) h a b c e = (d, refl, ap words_in e)
-parsed-words (fault k) h a b c e = let z : ◌≡◌ {A = ℕ} 0 1 = cc in absurd (omega arith)
-
-parsed-fault : (o : Checked Cell) (k : ℕ) → parsed_of o ≡ Fault k → o ≡ fault k
-parsed-fault (fine d) k e = let z : ◌≡◌ {A = ℕ} 0 1 = cc in absurd (omega arith)
-parsed-fault (fault j) k e = cc
 
 -- THE IMAGE
 -- A run of stores over zeros.
@@ -146,31 +130,30 @@ module _ (write : Bool) (p : Parameters) (text old : List ℕ) where
       pub too_many : i ≡ p.t → text_reply p text ≡ Refused 8 0
       too_many e = s.reply ∙ ap (reply_from p i) n.same ∙ reply_many p i (part at end text) (lines (drop next text)) e
 
-      pub at-fault : (k : ℕ) → parsed_of (line_of p (part at end text)) ≡ Fault k →
+      pub at-fault : (k : ℕ) → line_of p (part at end text) ≡ fault k →
           text_reply p text ≡ cond (leb (i + 1 + length (lines (drop next text))) p.t) (Refused k i) (Refused 8 0)
       at-fault k e =
-          s.reply ∙ ap (reply_from p i) n.same ∙ reply-fault p i (part at end text) (lines (drop next text)) k (parsed-fault _ k e)
+          s.reply ∙ ap (reply_from p i) n.same ∙ reply-fault p i (part at end text) (lines (drop next text)) k e
 
-      module _ (h a b c : ℕ) (l : i < p.t) (e : parsed_of (line_of p (part at end text)) ≡ Words h a b c) where
+      module _ (cell : Cell) (l : i < p.t) (e : line_of p (part at end text) ≡ fine cell) where
         abbrev ws : List ℕ
-        ws = h ∷ a ∷ b ∷ c ∷ []
+        ws = cell_words cell
 
         at-cell : {new : List ℕ} → Held write p old new (s.done ++ ws) (i + 1) → LinesInvariant write p text old new next (i + 1)
         unfolding lines_words
         at-cell held =
             let ls = lines (drop next text) in
-            let f = parsed-words (line_of p (part at end text)) h a b c e in
             record {
               done = s.done ++ ws;
               inside = n.within;
               few = omega arith;
               size = length-append s.done ws ∙ omega (arith, s.size);
               held = held;
-              reply = s.reply ∙ ap (reply_from p i) n.same ∙ reply-fine p i (part at end text) ls f.0 f.1;
+              reply = s.reply ∙ ap (reply_from p i) n.same ∙ reply-fine p i (part at end text) ls cell e;
               words =
                   s.words
                   ∙ ap (λ (xs : List (List ℕ)). s.done ++ lines_words p xs) n.same
-                  ∙ ap (λ (xs : List ℕ). s.done ++ (xs ++ lines_words p ls)) (ap words_of f.1 ∙ f.2)
+                  ∙ ap (λ (xs : List ℕ). s.done ++ (xs ++ lines_words p ls)) (ap words_of e)
                   ∙ sym (append_assoc s.done ws (lines_words p ls));
               count = s.count ∙ omega (arith, ap length n.same);
             }
@@ -207,21 +190,3 @@ refused-line write p text old image b k i e q h = (e ∙ sym q, subst (Filled wr
 -- A cell more has room.
 pub room : {i t size : ℕ} → i ≤ t → ¬ (i ≡ t) → size ≡ 4 * t → 4 * i + 4 ≤ size
 room l d e = let k = lt_of_le-ne l d in omega arith
-
--- One more zero in front of what stands behind.
-abbrev pub zeros : ℕ → List ℕ
-zeros k = replicate k 0
-
-one_more : (k : ℕ) → zeros k ++ (0 ∷ []) ≡ zeros (suc k)
-one_more zero = refl
-one_more (suc k) = ap (λ (xs : List ℕ). 0 ∷ xs) (one_more k)
-
-pub cleared : (image : List ℕ) (i : ℕ) → i < length image → set (zeros i ++ drop i image) i 0 ≡ zeros (i + 1) ++ drop (i + 1) image
-cleared image i h =
-    let rest : List ℕ = drop (suc i) image in
-    let e : set (zeros i ++ drop i image) i 0 ≡ zeros (suc i) ++ rest =
-    ap (λ (xs : List ℕ). set (zeros i ++ xs) i 0) (drop-cons image i 0 h)
-    ∙ set_at (zeros i) (get_or image i 0) rest 0 i (length-replicate {A = ℕ} i 0)
-    ∙ sym (append_snoc (zeros i) 0 rest)
-    ∙ ap (λ (xs : List ℕ). xs ++ rest) (one_more i) in
-    rw (add-one i) e

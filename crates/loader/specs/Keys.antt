@@ -1,5 +1,5 @@
 -- Names as numbers, so that a word is compared with each at one stroke.
-use Rattle.std.specs.Prelude.{ℕ, suc, ◌+◌, ◌*◌, ◌%◌, ◌≡◌, Bool, true, false, ◌&&◌, List, [], ◌∷◌, map, eqb, length, get_or, drop}
+use Rattle.std.specs.Prelude.{ℕ, suc, ◌+◌, ◌*◌, ◌%◌, ◌≡◌, ◌≤◌, Option, Some, None, Bool, true, false, ◌&&◌, List, [], ◌∷◌, map, eqb, length, get_or, drop}
 use Rattle.model.specs.Numbers.{upper}
 use Rattle.model.specs.Load.{names}
 
@@ -33,3 +33,8 @@ Slots slots = (length slots ≡ 119) × (slotted 0 slots key_table ≡ true)
 unfoldable pub place_from : ℕ → ℕ → List ℕ → ℕ
 place_from n k [] = 0
 place_from n k (x ∷ xs) = elim (eqb x k) [ true ↦ n | false ↦ place_from (suc n) k xs ]
+
+-- A number that is found; the definitions have 0 where there is none.
+abbrev pub Finds : Option ℕ → ℕ → Type 0
+Finds None n = n ≡ 0
+Finds (Some x) n = (x ≡ n) × (1 ≤ n)

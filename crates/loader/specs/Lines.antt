@@ -2,14 +2,7 @@
 use Rattle.std.specs.Prelude.{ℕ, cond, List, eqb, ltb, length}
 use Rattle.model.specs.declared.Parameters.{Parameters}
 use Rattle.model.specs.Words.{Cell}
-use Rattle.model.specs.Load.{Checked, fine, fault, arguments_from, headed}
-use Rattle.loader.specs.declared.line.Parsed.{Parsed}
-use Rattle.loader.specs.declared.line.Parsed.TheVariants.{Words, Fault}
-
--- A cell or a fault as the code gives it.
-abbrev pub parsed_of : Checked Cell → Parsed
-parsed_of (fine c) = Words c.head c.first c.second c.third
-parsed_of (fault k) = Fault k
+use Rattle.model.specs.Load.{Checked, fault, arguments_from, headed}
 
 -- The count of packed forms, of which there are three at most.
 abbrev pub form_count : ℕ → ℕ

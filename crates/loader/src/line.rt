@@ -1,24 +1,21 @@
 // A line of a text: the instruction, the count of its arguments, and each argument.
 ghost use Rattle.std.specs.Prelude.{◌≡◌, cond, [], ◌≤◌, eqb, length, drop};
-ghost use Rattle.model.specs.Parameters.{limit, Fit};
 ghost use Rattle.model.specs.Instructions.{row_of};
 ghost use Rattle.model.specs.Load.{words, fault, line_of};
-ghost use Rattle.image.specs.Forms.{packed, form_table};
-ghost use Rattle.loader.specs.Keys.{key_table, Slots};
-ghost use Rattle.loader.specs.Lines.{form_count, parsed_of, counted};
+ghost use Rattle.model.specs.Replies.{number_of};
+ghost use Rattle.image.specs.Decode.{cell_from};
+ghost use Rattle.image.specs.Forms.{packed};
+ghost use Rattle.loader.specs.Faults.{checked_of};
+ghost use Rattle.loader.specs.Lines.{form_count, counted};
 
-use crate::arguments::{WordOrFault, argument_word};
+use crate::arguments::argument_word;
+use crate::limits::Limits;
 use crate::names::find_name;
+use crate::tables::Tables;
+use image::decode::Instruction;
 use image::forms::{NOP, forms_of};
-use model::Parameters;
+use model::Refusal;
 use text::words::next_word;
-
-// The words of a line's cell, or the line's fault: 11 to 14.
-#[derive(Clone, Copy)]
-pub enum Parsed {
-    Words(u32, u32, u32, u32),
-    Fault(u32),
-}
 
 // The count of words from a place on.
 fn count_words(l: &[u8], from: usize) -> usize
@@ -41,34 +38,36 @@ fn count_words(l: &[u8], from: usize) -> usize
 fn form_count(forms: u32) -> usize
     ensures { result ≡ form_count forms }
 {
-    if forms == 0 {
-        return 0;
+    match forms {
+        0 => 0,
+        1..=15 => 1,
+        16..=255 => 2,
+        _ => 3,
     }
-    if forms < 16 {
-        return 1;
-    }
-    if forms < 256 {
-        return 2;
-    }
-    3
 }
 
 // A faulty argument, unless the count of words is wrong, which comes first.
-fn fault_unless_miscounted(l: &[u8], from: usize, forms: u32, k: u32) -> Parsed
+fn fault_unless_miscounted(l: &[u8], from: usize, forms: u32, fault: Refusal) -> Refusal
     requires { from ≤ length l.now }
-    ensures { result ≡ parsed_of (cond (eqb (length (words (drop from l.now))) (form_count forms)) (fault k) (fault 12)) }
+    ensures { number_of result ≡ cond (eqb (length (words (drop from l.now))) (form_count forms)) (number_of fault) 12 }
 {
     if count_words(l, from) == form_count(forms) {
-        return Parsed::Fault(k);
+        fault
+    } else {
+        Refusal::ArgumentCount
     }
-    Parsed::Fault(12)
 }
 
 // The arguments of an instruction from a place on, each at its form. The words are counted as they are read.
-fn parse_arguments(l: &[u8], from: usize, number: u32, forms: u32, p: Parameters, m: u32) -> Parsed
-    requires fit { Fit p × (m ≡ limit p.k) }
-    requires from_in_bounds { (from ≤ length l.now) × (forms ≡ packed (row_of number).forms) }
-    ensures { result ≡ parsed_of (counted p number [] (row_of number).forms (words (drop from l.now))) }
+fn parse_arguments(
+    l: &[u8],
+    from: usize,
+    number: u32,
+    forms: u32,
+    limits: Limits,
+) -> Result<Instruction, Refusal>
+    requires { (from ≤ length l.now) × (forms ≡ packed (row_of number).forms) }
+    ensures { checked_of cell_from result ≡ counted limits.parameters number [] (row_of number).forms (words (drop from l.now)) }
 {
     let mut arguments = [0u32; 3];
     let mut at = from;
@@ -79,50 +78,44 @@ fn parse_arguments(l: &[u8], from: usize, number: u32, forms: u32, p: Parameters
         let start = w.start;
         let end = w.end;
         if start == end {
-            return Parsed::Fault(12);
+            return Err(Refusal::ArgumentCount);
         }
         let form = rest % 16;
         rest = rest / 16;
-        let answer = argument_word(&l[start..end], form, p, m);
-        match answer {
-            WordOrFault::Fault(k) => {
-                return fault_unless_miscounted(l, end, rest, k);
-            }
-            WordOrFault::Word(x) => {
-                arguments[i] = x;
-            }
+        match argument_word(&l[start..end], form, limits) {
+            Ok(x) => arguments[i] = x,
+            Err(fault) => return Err(fault_unless_miscounted(l, end, rest, fault)),
         }
         at = end;
         i += 1;
     }
     if count_words(l, at) != 0 {
-        return Parsed::Fault(12);
+        return Err(Refusal::ArgumentCount);
     }
-    Parsed::Words(number, arguments[0], arguments[1], arguments[2])
+    let [first, second, third] = arguments;
+    Ok(Instruction {
+        number,
+        first,
+        second,
+        third,
+    })
 }
 
-// The line as a cell. The tables are those of `key_table`, `slot_table` and `form_table`.
-pub fn parse_line(
-    l: &[u8],
-    p: Parameters,
-    m: u32,
-    keys: &[u64],
-    slots: &[u8],
-    forms: &[u32],
-) -> Parsed
-    requires fit { Fit p × (m ≡ limit p.k) }
-    requires keys_value { (keys.now ≡ key_table) × Slots slots.now × (forms.now ≡ form_table) }
-    ensures { result ≡ parsed_of (line_of p l.now) }
+// The line as a cell.
+pub fn parse_line(l: &[u8], limits: Limits, tables: &Tables) -> Result<Instruction, Refusal>
+    ensures { checked_of cell_from result ≡ line_of limits.parameters l.now }
 {
     let w = next_word(l, 0);
     let start = w.start;
     let end = w.end;
     if start == end {
-        return Parsed::Words(NOP, 0, 0, 0);
+        return Ok(Instruction {
+            number: NOP,
+            ..Instruction::EMPTY
+        });
     }
-    let number = find_name(&l[start..end], keys, slots);
-    if number == 0 {
-        return Parsed::Fault(11);
-    }
-    parse_arguments(l, end, number, forms_of(forms, number), p, m)
+    let number = find_name(&l[start..end], &tables.keys, &tables.slots).ok_or(
+        Refusal::Instruction,
+    )?;
+    parse_arguments(l, end, number, forms_of(&tables.forms, number), limits)
 }

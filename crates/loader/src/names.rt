@@ -1,7 +1,8 @@
 // The instructions' names, and words that are compared with a name.
-ghost use Rattle.std.specs.Prelude.{◌≡◌, ◌≤◌, length};
+ghost use Rattle.std.specs.Prelude.{◌≡◌, ◌≤◌, ◌<◌, length, IfSome};
+ghost use Rattle.std.specs.List.{position};
 ghost use Rattle.model.specs.Load.{same_word, lookup};
-ghost use Rattle.loader.specs.Keys.{key_of, key_table, Slots, place_from};
+ghost use Rattle.loader.specs.Keys.{key_of, key_table, Slots, place_from, Finds};
 
 use text::bytes::upper;
 
@@ -81,21 +82,19 @@ pub fn slot_table() -> [u8; 119]
     SLOTS
 }
 
+// The names that are too long for a key, in the order of their numbers from 1 on.
+const LONG: [&[u8]; 4] = [
+    b"CLEAR_REG",
+    b"CLEAR_DATA_MEM",
+    b"DUMP_REG",
+    b"DUMP_DATA_MEM",
+];
+
 // The word is this name.
 pub fn same_word(w: &[u8], name: &[u8]) -> bool
     ensures { result ≡ same_word w.now name.now }
 {
-    if w.len() != name.len() {
-        return false;
-    }
-    let mut i = 0;
-    while i < w.len() {
-        if upper(w[i]) != name[i] {
-            return false;
-        }
-        i += 1;
-    }
-    true
+    w.len() == name.len() && w.iter().zip(name).all(|(b, &n)| upper(*b) == n)
 }
 
 // The key of a word of at most seven bytes.
@@ -104,57 +103,51 @@ fn word_key(w: &[u8]) -> u64
     ensures { result ≡ key_of w.now }
 {
     let mut key: u64 = 1;
-    let mut i = 0;
-    while i < w.len() {
-        key = key * 256 + upper(w[i]) as u64;
-        i += 1;
+    for &b in w {
+        key = key * 256 + upper(b) as u64;
     }
     key
 }
 
-// The number of the instruction with this key; 0 if there is none. Only one place can have it.
-fn find_key(keys: &[u64], slots: &[u8], key: u64) -> u32
+// The number of the instruction with this key. Only one place can have it.
+fn find_key(keys: &[u64], slots: &[u8], key: u64) -> Option<u32>
     requires { (keys.now ≡ key_table) × Slots slots.now }
-    ensures { result ≡ place_from 5 key key_table }
+    ensures { Finds result (place_from 5 key key_table) }
 {
-    let r = (key % 9284 % 119) as usize;
-    let i = slots[r] as usize;
-    if keys.len() <= i {
-        return 0;
+    let slot = (key % 9284 % 119) as usize;
+    let i = slots[slot] as usize;
+    if i < keys.len() && keys[i] == key {
+        Some(i as u32 + 5)
+    } else {
+        None
     }
-    if keys[i] != key {
-        return 0;
-    }
-    i as u32 + 5
+}
+
+// The place of the word among names.
+pub(crate) fn find_word(w: &[u8], names: &[&[u8]]) -> Option<usize>
+    ensures bound { IfSome result (λ i. i < length names.now) }
+    ensures value { result ≡ position (λ name. same_word w.now name.now) names.now }
+{
+    names.iter().position(|name| same_word(w, name))
 }
 
 // The number of the instruction with a name of eight bytes or more.
-fn find_long(w: &[u8]) -> u32
+fn find_long(w: &[u8]) -> Option<u32>
     requires { 8 ≤ length w.now }
-    ensures { result ≡ lookup w.now }
+    ensures { Finds result (lookup w.now) }
 {
-    if same_word(w, b"CLEAR_REG") {
-        return 1;
-    }
-    if same_word(w, b"CLEAR_DATA_MEM") {
-        return 2;
-    }
-    if same_word(w, b"DUMP_REG") {
-        return 3;
-    }
-    if same_word(w, b"DUMP_DATA_MEM") {
-        return 4;
-    }
-    0
+    let i = find_word(w, &LONG)?;
+    Some(1 + i as u32)
 }
 
-// The number of the instruction that the word names; 0 if it names none.
-pub fn find_name(w: &[u8], keys: &[u64], slots: &[u8]) -> u32
+// The number of the instruction that the word names.
+pub fn find_name(w: &[u8], keys: &[u64], slots: &[u8]) -> Option<u32>
     requires { (keys.now ≡ key_table) × Slots slots.now }
-    ensures { result ≡ lookup w.now }
+    ensures { Finds result (lookup w.now) }
 {
     if 7 < w.len() {
-        return find_long(w);
+        find_long(w)
+    } else {
+        find_key(keys, slots, word_key(w))
     }
-    find_key(keys, slots, word_key(w))
 }

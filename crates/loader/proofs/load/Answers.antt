@@ -1,42 +1,54 @@
 -- `load` meets its contract, check by check. Assumes nothing.
-use mathlib.Core.Path.{refl, sym, ◌∙◌}
+use mathlib.Core.Path.{◌≡◌, sym, ap, ◌∙◌}
 use native.Mathlib.Omega.{arith}
+use Rattle.std.proofs.Common.{rules}
+use Rattle.model.specs.declared.LoadError.{LoadError}
+use Rattle.model.specs.declared.Refusal.TheVariants.{TextLength}
+use Rattle.model.specs.declared.Parameters.{Parameters}
+use Rattle.model.specs.Load.{Refused, text_reply}
 use Rattle.model.specs.Parameters.{Fit}
-use Rattle.model.proofs.Fits.{limits}
-use Rattle.loader.proofs.LoadLaws.{answered, by-parameters, by_length, by-text, by_lines}
+use Rattle.model.specs.Replies.{number_of, refusal_number, load_answer}
+use Rattle.loader.proofs.LoadLaws.{numbered, has-number, by-parameters, by_length, by-text, by_lines}
 use Rattle.loader.proofs.load.Goals as goal
 
-pub returns-then-refusal-ne0 : goal.returns-then-refusal-ne0
-returns-then-refusal-ne0 c =
+-- The parameters are refused.
+pub returns-in_err-check_parameters-clause-value : goal.returns-in_err-check_parameters-clause-value
+returns-in_err-check_parameters-clause-value c =
     let a = c.args in
-    let r = answered a.p a.text.now a.image.now (by-parameters a.p a.text.now a.image.now c.parameter_refusal-refusal.ensures c.if-refusal-ne0.true) in
-    record { value = r.0; numbers = r.1; image = refl }
+    let r = c.in_err-check_parameters.field-0.0 in
+    let refused : load_answer c.from_residual.result ≡ Refused (number_of r) 0 = search rules in
+    let number = sym (ap refusal_number c.in_err-check_parameters.was) ∙ c.check_parameters.ensures in
+    refused ∙ by-parameters a.p a.text.now a.image.now number (has-number r)
 
-pub returns-then-image-t : goal.returns-then-image-t
-returns-then-image-t c =
+pub returns-in_err-check_parameters-clause-numbers : goal.returns-in_err-check_parameters-clause-numbers
+returns-in_err-check_parameters-clause-numbers c = numbered _ _ _ (returns-in_err-check_parameters-clause-value c)
+
+-- They fit, and the image or the text does not.
+pub returns-then-image-p-clause-value : goal.returns-then-image-p-clause-value
+returns-then-image-p-clause-value c =
     let a = c.args in
-    let fit : Fit a.p = sym c.parameter_refusal-refusal.ensures ∙ c.if-refusal-ne0.false in
-    let r = answered a.p a.text.now a.image.now (by_length a.p a.text.now a.image.now fit c.if-image-t.true) in
-    record { value = r.0; numbers = r.1; image = refl }
+    let fit : Fit a.p = sym c.check_parameters.ensures ∙ ap refusal_number c.in_ok-check_parameters.was in
+    ap (λ (e : LoadError). Refused (number_of e.refusal) e.line) c.from.ensures ∙ by_length a.p a.text.now a.image.now fit c.if-image-p.true
 
-pub returns-then-text-gt-MAX_TEXT : goal.returns-then-text-gt-MAX_TEXT
-returns-then-text-gt-MAX_TEXT c =
+pub returns-then-image-p-clause-numbers : goal.returns-then-image-p-clause-numbers
+returns-then-image-p-clause-numbers c = numbered _ _ _ (returns-then-image-p-clause-value c)
+
+pub returns-then-text-gt-MAX_TEXT-clause-value : goal.returns-then-text-gt-MAX_TEXT-clause-value
+returns-then-text-gt-MAX_TEXT-clause-value c =
     let a = c.args in
-    let fit : Fit a.p = sym c.parameter_refusal-refusal.ensures ∙ c.if-refusal-ne0.false in
-    let r = answered a.p a.text.now a.image.now (by-text a.p a.text.now a.image.now fit c.if-image-t.false c.if-text-gt-MAX_TEXT.true) in
-    record { value = r.0; numbers = r.1; image = refl }
+    let fit : Fit a.p = sym c.check_parameters.ensures ∙ ap refusal_number c.in_ok-check_parameters.was in
+    let refused : c.from-then-text-gt-MAX_TEXT.result ≡ record { refusal = TextLength; line = 0 } = search rules in
+    ap (λ (e : LoadError). Refused (number_of e.refusal) e.line) refused ∙ by-text a.p a.text.now a.image.now fit c.if-image-p.false c.if-text-gt-MAX_TEXT.true
 
-pub limit_of-requires : goal.limit_of-requires
-limit_of-requires c =
-    let fit : Fit c.args.p = sym c.parameter_refusal-refusal.ensures ∙ c.if-refusal-ne0.false in
-    let l = limits _ fit in
-    (l.k-low, l.k-high)
+pub returns-then-text-gt-MAX_TEXT-clause-numbers : goal.returns-then-text-gt-MAX_TEXT-clause-numbers
+returns-then-text-gt-MAX_TEXT-clause-numbers c = numbered _ _ _ (returns-then-text-gt-MAX_TEXT-clause-value c)
 
-pub returns : goal.returns
-returns c =
+-- All fits.
+pub returns-clause-value : goal.returns-clause-value
+returns-clause-value c =
     let a = c.args in
-    let fit : Fit a.p = sym c.parameter_refusal-refusal.ensures ∙ c.if-refusal-ne0.false in
-    let loaded = c.load_lines.ensures in
-    let r =
-    answered a.p a.text.now a.image.now (by_lines a.p a.text.now a.image.now fit c.if-image-t.false (omega arith) loaded.value) in
-    record { value = r.0; numbers = r.1; image = loaded.image }
+    let fit : Fit a.p = sym c.check_parameters.ensures ∙ ap refusal_number c.in_ok-check_parameters.was in
+    by_lines a.p a.text.now a.image.now fit c.if-image-p.false (omega arith) (c.load_lines.ensures.value ∙ ap (λ (p : Parameters). text_reply p a.text.now) c.new.ensures)
+
+pub returns-clause-numbers : goal.returns-clause-numbers
+returns-clause-numbers c = numbered _ _ _ (returns-clause-value c)

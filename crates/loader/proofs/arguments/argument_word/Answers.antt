@@ -1,66 +1,59 @@
 -- `argument_word` meets its contract, by the first letter and the special registers' names. Assumes nothing.
-use mathlib.Core.Path.{sym, ap, ◌∙◌}
-use mathlib.Core.Option.{Option}
-use native.Mathlib.Omega.{arith}
-use borrow.Author.Rules.{rules}
-use Rattle.model.specs.Words.{Argument, word_of, register_kind}
-use Rattle.model.specs.Load.{special_of, checked_argument}
-use Rattle.loader.specs.declared.arguments.WordOrFault.TheVariants.{Word}
-use Rattle.loader.specs.Faults.{word_or_fault_of}
-use Rattle.loader.proofs.ArgumentLaws.{special-high, argument-none, argument_special, argument_register, argument_direct, argument-number, special-barred, special-checked}
+use Rattle.std.proofs.Common.{ℕ, ◌≡◌, sym, ap, ◌∙◌, arith, Some, subst, Option, ◌<◌, false, eqb}
+use borrow.Author.Tests.{eqb-true, eqb-false}
+use Rattle.model.specs.Words.{word_of, register_kind}
+use Rattle.model.specs.Load.{special_of, checked_argument, fine}
+use Rattle.loader.specs.Keys.{Finds}
+use Rattle.loader.proofs.ArgumentLaws.{special-high, argument-none, argument_special, argument_register, argument_direct, argument-number, special-checked}
 use Rattle.loader.proofs.arguments.argument_word.Goals as goal
 
-pub returns-then-w-eq0 : goal.returns-then-w-eq0
-returns-then-w-eq0 c =
+some-byte : (n : ℕ) → eqb n 0 ≡ false → 0 < n
+some-byte n e = let d = eqb-false n 0 e in omega arith
+
+pub returns-then-is_empty : goal.returns-then-is_empty
+returns-then-is_empty c =
     let a = c.args in
-    sym (ap (λ (o : Option Argument). word_or_fault_of (checked_argument a.p a.form o)) (argument-none a.w.now c.if-w-eq0.true))
+    sym (ap (checked_argument a.limits.parameters a.form) (argument-none a.w.now (eqb-true _ _ (sym c.is_empty.ensures ∙ c.if-is_empty.true))))
 
-pub returns-then-b-eq82 : goal.returns-then-b-eq82
-returns-then-b-eq82 c =
-    let at = c in
-    let a = at.args in
+pub returns-in-82 : goal.returns-in-82
+returns-in-82 c =
+    let a = c.args in
     c.register_word.ensures
-    ∙ sym (ap (λ (o : Option Argument). word_or_fault_of (checked_argument a.p a.form o))
-    (argument_register a.w.now (search rules) (sym at.upper-b.ensures ∙ at.if-b-eq82.true)))
+    ∙ sym (ap (checked_argument a.limits.parameters a.form) (argument_register a.w.now (some-byte _ (sym c.is_empty.ensures ∙ c.if-is_empty.false)) (sym c.upper.ensures ∙ c.in-82.is)))
 
-pub returns-then-b-eq68 : goal.returns-then-b-eq68
-returns-then-b-eq68 c =
-    let at = c in
-    let a = at.args in
+pub returns-in-68 : goal.returns-in-68
+returns-in-68 c =
+    let a = c.args in
     c.direct_word.ensures
-    ∙ sym (ap (λ (o : Option Argument). word_or_fault_of (checked_argument a.p a.form o))
-    (argument_direct a.w.now (search rules) (sym at.upper-b.ensures ∙ at.if-b-eq68.true)))
-
-pub returns-then-r-eq0 : goal.returns-then-r-eq0
-returns-then-r-eq0 c =
-    let at = c in
-    let e = at in
-    let a = e.args in
-    let u = e.upper-b.ensures in
-    c.number_word.ensures
-    ∙ sym (ap (λ (o : Option Argument). word_or_fault_of (checked_argument a.p a.form o))
-    (argument-number a.w.now (search rules) (λ q. e.if-b-eq82.false (u ∙ q)) (λ q. e.if-b-eq68.false (u ∙ q))
-    (sym at.special-r.ensures ∙ at.if-r-eq0.true)))
+    ∙ sym (ap (checked_argument a.limits.parameters a.form) (argument_direct a.w.now (some-byte _ (sym c.is_empty.ensures ∙ c.if-is_empty.false)) (sym c.upper.ensures ∙ c.in-68.is)))
 
 pub overflow_add-result : goal.overflow_add-result
 overflow_add-result c =
-    let at = c in
-    let h = special-high at.args.w.now in
-    omega (arith, at.special-r.ensures)
+    let found : Finds (Some c.in-Some.r) (special_of c.args.w.now) = subst (λ (o : Option ℕ). Finds o (special_of c.args.w.now)) c.in-Some.is c.special.ensures in
+    let h = special-high c.args.w.now in
+    omega (arith, found.0)
 
-pub returns-then-form-eq1 : goal.returns-then-form-eq1
-returns-then-form-eq1 c =
-    let at = c in
-    let a = at.args in
-    let w = a.w.now in
-    ap Word (ap (word_of register_kind) at.special-r.ensures)
-    ∙ sym (ap word_or_fault_of (special-checked a.p a.form c.if-form-eq1.true (special_of w)))
-    ∙ sym (ap (λ (o : Option Argument). word_or_fault_of (checked_argument a.p a.form o)) (argument_special w (λ q. c.if-r-eq0.false (at.special-r.ensures ∙ q))))
+pub returns-in-None : goal.returns-in-None
+returns-in-None c =
+    let w = c.args.w.now in
+    let none : special_of w ≡ 0 = subst (λ (o : Option ℕ). Finds o (special_of w)) c.in-None.is c.special.ensures in
+    let u = c.upper.ensures in
+    let plain = argument-number w (some-byte _ (sym c.is_empty.ensures ∙ c.if-is_empty.false)) (λ q. absurd (omega (arith, u, q))) (λ q. absurd (omega (arith, u, q))) none in
+    c.number_word.ensures ∙ sym (ap (checked_argument c.args.limits.parameters c.args.form) plain)
 
-pub returns : goal.returns
-returns c =
-    let at = c in
-    let a = at.args in
+pub returns-in-Some : goal.returns-in-Some
+returns-in-Some c =
+    let a = c.args in
     let w = a.w.now in
-    sym (ap (λ (o : Option Argument). word_or_fault_of (checked_argument a.p a.form o)) (argument_special w (λ q. c.if-r-eq0.false (at.special-r.ensures ∙ q)))
-    ∙ ap word_or_fault_of (special-barred a.p a.form c.if-form-eq1.false (special_of w)))
+    let found : Finds (Some c.in-Some.r) (special_of w) = subst (λ (o : Option ℕ). Finds o (special_of w)) c.in-Some.is c.special.ensures in
+    ap fine (ap (word_of register_kind) found.0)
+    ∙ sym (special-checked a.limits.parameters a.form (special_of w) (sym (c.allows_special.ensures (special_of w)) ∙ c.if-allows_special.true))
+    ∙ sym (ap (checked_argument a.limits.parameters a.form) (argument_special w (λ q. absurd (omega (arith, found.1, q)))))
+
+pub returns-in-Some-2 : goal.returns-in-Some-2
+returns-in-Some-2 c =
+    let a = c.args in
+    let w = a.w.now in
+    let found : Finds (Some c.in-Some-2.field-0) (special_of w) = subst (λ (o : Option ℕ). Finds o (special_of w)) c.in-Some-2.is c.special.ensures in
+    let barred = sym (c.allows_special.ensures (special_of w)) ∙ c.if-allows_special.false in
+    sym (ap (checked_argument a.limits.parameters a.form) (argument_special w (λ q. absurd (omega (arith, found.1, q)))) ∙ simp barred)

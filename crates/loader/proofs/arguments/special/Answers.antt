@@ -1,32 +1,14 @@
-use mathlib.Core.Path.{sym, ◌∙◌}
-use Rattle.loader.proofs.ArgumentLaws.{special_choice}
+-- `special` meets its contract. Assumes nothing.
+use Rattle.std.proofs.Common.{Option, ℕ, sym, subst}
+use Rattle.model.specs.Load.{special_of}
+use Rattle.loader.specs.Keys.{Finds}
+use Rattle.loader.proofs.ArgumentLaws.{special-found}
 use Rattle.loader.proofs.arguments.special.Goals as goal
 
-pub returns-then-same_word : goal.returns-then-same_word
-returns-then-same_word c =
+pub returns-in_err-i : goal.returns-in_err-i
+returns-in_err-i c =
     let w = c.args.w.now in
-    let f1 = sym c.same_word.ensures ∙ c.if-same_word.true in
-    sym (special_choice w ∙ simp (f1))
-
-pub returns-then-same_word-2 : goal.returns-then-same_word-2
-returns-then-same_word-2 c =
-    let w = c.args.w.now in
-    let f1 = sym c.same_word.ensures ∙ c.if-same_word.false in
-    let f2 = sym c.same_word-2.ensures ∙ c.if-same_word-2.true in
-    sym (special_choice w ∙ simp (f1, f2))
-
-pub returns-then-same_word-3 : goal.returns-then-same_word-3
-returns-then-same_word-3 c =
-    let w = c.args.w.now in
-    let f1 = sym c.same_word.ensures ∙ c.if-same_word.false in
-    let f2 = sym c.same_word-2.ensures ∙ c.if-same_word-2.false in
-    let f3 = sym c.same_word-3.ensures ∙ c.if-same_word-3.true in
-    sym (special_choice w ∙ simp (f1, f2, f3))
+    subst (λ (o : Option ℕ). Finds o (special_of w)) (sym c.from_residual.ensures) (special-found w c.find_word.ensures.value c.in_err-i.was)
 
 pub returns : goal.returns
-returns c =
-    let w = c.args.w.now in
-    let f1 = sym c.same_word.ensures ∙ c.if-same_word.false in
-    let f2 = sym c.same_word-2.ensures ∙ c.if-same_word-2.false in
-    let f3 = sym c.same_word-3.ensures ∙ c.if-same_word-3.false in
-    sym (special_choice w ∙ simp (f1, f2, f3))
+returns c = special-found c.args.w.now c.find_word.ensures.value c.in_ok-i.was

@@ -1,15 +1,12 @@
 -- `find_name` meets its contract: a short word by its key, a long one by its bytes. Assumes nothing.
 use Prim.Native.Nat.{ℕ}
-use mathlib.Core.Path.{sym, ap, ◌∙◌}
+use mathlib.Core.Path.{sym, ap, subst, ◌∙◌}
 use native.Mathlib.Omega.{arith}
-use Rattle.loader.specs.Keys.{key_table, place_from}
+use Rattle.loader.specs.Keys.{key_table, place_from, Finds}
 use Rattle.loader.proofs.NameLaws.{short-word}
 use Rattle.loader.proofs.names.find_name.Goals as goal
 
-pub returns : goal.returns
-returns c =
-    let at = c in
-    let w = at.args.w.now in
-    c.find_key.ensures
-    ∙ ap (λ (k : ℕ). place_from 5 k key_table) c.word_key.ensures
-    ∙ sym (short-word w (λ i. (c.type_inv.w i).fits) (omega arith))
+pub returns-else-w-gt7 : goal.returns-else-w-gt7
+returns-else-w-gt7 c =
+    let by_key = ap (λ (k : ℕ). place_from 5 k key_table) c.word_key.ensures ∙ sym (short-word c.args.w.now (λ i. (c.type_inv.w i).fits) (omega arith)) in
+    subst (Finds c.find_key.result) by_key c.find_key.ensures

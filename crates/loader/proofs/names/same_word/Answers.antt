@@ -1,43 +1,17 @@
--- `same_word` meets its contract: what is left to compare decides. Assumes nothing.
-use Prim.Native.Nat.{◌≤◌, ◌<◌}
-use mathlib.Core.Path.{sym, ◌∙◌}
-use native.Mathlib.Omega.{arith}
-use lib.ListN.{length}
-use borrow.Author.Rules.{rules}
-use Rattle.loader.proofs.NameLaws.{other_length, same_end, same_byte, other_byte}
+-- `same_word` meets its contract: words of one length are compared byte by byte. Assumes nothing.
+use Rattle.std.proofs.Common.{◌∙◌, sym, rules}
+use borrow.Author.Tests.{tests, ne_eqb}
+use Rattle.std.proofs.lemmas.Iterator.{YieldsList-from_slice, YieldsList-from_zip}
+use Rattle.std.proofs.lemmas.Iterator.Search.{all_from_yields_List}
+use Rattle.loader.proofs.NameLaws.{same-byte, same_length, other_length}
 use Rattle.loader.proofs.names.same_word.Goals as goal
 
 pub returns-then-w-name : goal.returns-then-w-name
-returns-then-w-name c = let l = c.if-w-name.true in sym (other_length _ _ (λ e. absurd (omega arith)))
+returns-then-w-name c =
+    let w = c.args.w.now in
+    let n = c.args.name.now in
+    all_from_yields_List same-byte c.all.new.self _ c.all.result c.all.ensures.ran (YieldsList-from_zip (YieldsList-from_slice w cc) (YieldsList-from_slice n cc)) (λ x b q k. search (rules, tests))
+    ∙ same_length w n c.if-w-name.true
 
-pub returns-then-upper-name : goal.returns-then-upper-name
-returns-then-upper-name c =
-    let at = c in
-    let start = at in
-    let w = start.args.w.now in
-    let n = start.args.name.now in
-    let i = at.loop-i.i in
-    let l : i < length w = search rules in
-    let e = at.loop-i.invariant.1 in
-    sym (at.loop-i.invariant.2 ∙ other_byte w n i l (omega arith) (λ e. c.if-upper-name.true (c.upper.ensures ∙ e)))
-
-pub loop-i-preserved : goal.loop-i-preserved
-loop-i-preserved c =
-    let at = c in
-    let start = at in
-    let w = start.args.w.now in
-    let n = start.args.name.now in
-    let i = at.loop-i.i in
-    let l : i < length w = search rules in
-    let e = at.loop-i.invariant.1 in
-    (search rules, e, at.loop-i.invariant.2 ∙ same_byte w n i l (omega arith) (sym c.upper.ensures ∙ c.if-upper-name.false))
-
-pub returns : goal.returns
-returns c =
-    let at = c in
-    let start = at in
-    let w = start.args.w.now in
-    let n = start.args.name.now in
-    let l : length w ≤ at.loop-i.i = search rules in
-    let e = at.loop-i.invariant.1 in
-    sym (at.loop-i.invariant.2 ∙ same_end w n at.loop-i.i l (omega arith))
+pub returns-else-w-name : goal.returns-else-w-name
+returns-else-w-name c = ne_eqb _ _ c.if-w-name.false ∙ sym (other_length _ _ c.if-w-name.false)

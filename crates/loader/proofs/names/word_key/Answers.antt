@@ -3,36 +3,32 @@ use Prim.Native.Nat.{ℕ, ◌+◌, ◌*◌}
 use mathlib.Core.Path.{sym, ap, ◌∙◌}
 use native.Mathlib.Omega.{arith}
 use lib.ListN.{drop}
-use borrow.Author.Rules.{rules}
 use Rattle.loader.specs.Keys.{key_from}
 use Rattle.loader.proofs.NameLaws.{key-end, key_byte, key-bits, key_fits}
 use Rattle.loader.proofs.names.word_key.Goals as goal
 
 pub overflow_mul-key : goal.overflow_mul-key
 overflow_mul-key c =
-    let inv = c.loop-i.invariant in
-    let f = key_fits c.loop-i.key 0 c.loop-i.i inv.2 (omega arith) (omega arith) in
+    let inv = c.loop-b.invariant in
+    let f = key_fits c.loop-b.key 0 c.loop-b.b-index inv.1 (omega arith) (omega arith) in
     omega arith
 
 pub overflow_add-key : goal.overflow_add-key
 overflow_add-key c =
-    let at = c in
-    let inv = at.loop-i.invariant in
-    let f = key_fits at.loop-i.key c.upper.result at.loop-i.i inv.2 (omega arith) c.upper.type_inv in
+    let inv = c.loop-b.invariant in
+    let f = key_fits c.loop-b.key c.upper.result c.loop-b.b-index inv.1 (omega arith) c.upper.type_inv in
     omega arith
 
-pub loop-i-preserved : goal.loop-i-preserved
-loop-i-preserved c =
-    let at = c in
-    let inv = at.loop-i.invariant in
-    let w = at.args.w.now in
-    let k = at.loop-i.key in
-    let i = at.loop-i.i in (
-      search rules,
-      inv.1,
-      key-bits k c.upper.result i inv.2 c.upper.type_inv,
-      inv.3 ∙ key_byte k w i (omega arith) ∙ ap (λ (u : ℕ). key_from (k * 256 + u) (drop (i + 1) w)) (sym c.upper.ensures),
+pub loop-b-preserved : goal.loop-b-preserved
+loop-b-preserved c =
+    let inv = c.loop-b.invariant in
+    let w = c.args.w.now in
+    let k = c.loop-b.key in
+    let i = c.loop-b.b-index in (
+      inv.0,
+      key-bits k c.upper.result i inv.1 c.upper.type_inv,
+      inv.2 ∙ key_byte k w i (omega arith) ∙ ap (λ (u : ℕ). key_from (k * 256 + u) (drop (i + 1) w)) (sym c.upper.ensures),
     )
 
 pub returns : goal.returns
-returns c = let inv = c.loop-i.invariant in sym (inv.3 ∙ key-end _ _ _ c.loop-i-test.false)
+returns c = let inv = c.loop-b.invariant in sym (inv.2 ∙ key-end _ _ _ c.loop-b-test.false)
