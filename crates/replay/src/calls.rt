@@ -1,68 +1,87 @@
 // Lists of calls. A call is three numbers, kind, index and value: 0 start; 1 grant of `value` cycles with room for `index` values; 2 to 5 put the
 // value into a field of the record, a register, a data cell, a word of the image; 6 prints the image.
-ghost use Rattle.std.specs.Prelude.{◌≤◌, length};
+ghost use Rattle.std.specs.Prelude.{◌≤◌, length, ⊤};
 
 use crate::images::put_image;
-use crate::printer::{Printer, put, put_end, put_signed, put_values};
-use crate::reader::{at_most, low, read_next, signed, signed_low};
-use loader::load;
+use crate::printer::Printer;
+use crate::reader::{Reader, at_most, low};
 use machine::{grant, start};
-use model::{Ending, GrantReply, LoadReply, Outcome, Parameters, Record};
+use model::{AcceptedGrant, Ending, LoadError, Parameters, Record, Refusal};
 
-// A case but for its text: the parameters, the lengths of the slices, the input's own bytes and those beyond, and the count of calls.
+// What a call does.
 #[derive(Clone, Copy)]
-pub struct Case {
-    pub parameters: Parameters,
-    pub words: usize,
-    pub registers: usize,
-    pub cells: usize,
-    pub own: usize,
-    pub more: usize,
-    pub calls: u32,
+enum Kind {
+    Start,
+    Grant,
+    SetField,
+    SetRegister,
+    SetCell,
+    SetWord,
+    PutImage,
 }
 
-// A call, and the place behind it.
-#[derive(Clone, Copy)]
-struct Call {
-    kind: u64,
-    index: u64,
-    value: u64,
-    end: usize,
-}
+// One that is none of 0 to 6 counts as 5.
+impl From<u64> for Kind {
+    ghost from_gives = { λ _ _. ⊤ };
 
-// The paper's numbers of a reply: refusal, count of lines, index of the faulty line.
-fn put_loaded(to: &mut Printer, reply: LoadReply) {
-    match reply {
-        LoadReply::Accepted(n) => {
-            put(to, 0);
-            put(to, n as u64);
-            put(to, 0);
-        }
-        LoadReply::Refused(k, i) => {
-            put(to, k as u64);
-            put(to, 0);
-            put(to, i as u64);
+    fn from(number: u64) -> Kind {
+        match number {
+            0 => Kind::Start,
+            1 => Kind::Grant,
+            2 => Kind::SetField,
+            3 => Kind::SetRegister,
+            4 => Kind::SetCell,
+            6 => Kind::PutImage,
+            _ => Kind::SetWord,
         }
     }
-    put_end(to);
 }
 
-fn put_parameters(to: &mut Printer, p: Parameters) {
-    put(to, p.k as u64);
-    put(to, p.n as u64);
-    put(to, p.s as u64);
-    put(to, p.b as u64);
-    put(to, p.t as u64);
+#[derive(Clone, Copy)]
+struct Call {
+    kind: Kind,
+    index: u64,
+    value: u64,
+}
+
+// The next call.
+fn read_call(reader: &mut Reader) -> Call
+    ensures { length reader.new.rest.now ≤ length reader.old.rest.now }
+{
+    let kind = Kind::from(reader.number());
+    let index = reader.number();
+    let value = reader.number();
+    Call { kind, index, value }
+}
+
+// The paper's numbers of load's answer: refusal, count of lines, index of the faulty line.
+pub fn put_loaded(to: &mut Printer, loaded: Result<usize, LoadError>) {
+    match loaded {
+        Ok(lines) => {
+            to.put(0);
+            to.put(lines);
+            to.put(0);
+        }
+        Err(e) => {
+            to.put(u32::from(e.refusal));
+            to.put(0);
+            to.put(e.line);
+        }
+    }
+    to.put_end();
 }
 
 fn put_record(to: &mut Printer, rec: Record) {
-    put_parameters(to, rec.parameters);
-    put(to, rec.iar as u64);
-    put(to, rec.ircr as u64);
-    put_signed(to, rec.shr);
-    put(to, rec.place as u64);
-    put(to, rec.granted);
-    put(to, rec.spent);
+    let Parameters { k, n, s, b, t } = rec.parameters;
+    for parameter in [k, n, s, b, t] {
+        to.put(parameter);
+    }
+    to.put(rec.iar);
+    to.put(rec.ircr);
+    to.put(rec.shr);
+    to.put(rec.place);
+    to.put(rec.granted);
+    to.put(rec.spent);
 }
 
 // 1 failed, 2 ended, 3 paused, 4 output full.
@@ -75,230 +94,130 @@ fn ending_number(e: Ending) -> u64 {
     }
 }
 
-// The refusal and the ending, 0 for the one that there is not.
-fn put_outcome(to: &mut Printer, o: Outcome) {
-    match o {
-        Outcome::Refused(k) => {
-            put(to, k as u64);
-            put(to, 0);
+// The paper's numbers of a grant's answer: the refusal and the ending, 0 for the one that there is not; the record; the values and the cycles.
+fn put_granted(to: &mut Printer, given: Record, granted: Result<AcceptedGrant, Refusal>) {
+    match granted {
+        Ok(grant) => {
+            to.put(0);
+            to.put(ending_number(grant.ending));
+            put_record(to, grant.rec);
+            to.put(grant.values);
+            to.put(grant.cycles);
         }
-        Outcome::Stopped(e) => {
-            put(to, 0);
-            put(to, ending_number(e));
+        Err(refusal) => {
+            to.put(u32::from(refusal));
+            to.put(0);
+            put_record(to, given);
+            to.put(0);
+            to.put(0);
         }
     }
+    to.put_end();
 }
 
-fn put_granted(to: &mut Printer, reply: GrantReply) {
-    let outcome = reply.outcome;
-    put_outcome(to, outcome);
-    put_record(to, reply.rec);
-    put(to, reply.values as u64);
-    put(to, reply.cycles);
-    put_end(to);
-}
-
-// The call at p.
-fn read_call(t: &[u8], p: usize) -> Call
-    requires { p ≤ length t.now }
-    ensures { (p ≤ result.end) × (result.end ≤ length t.now) }
-{
-    let kind = read_next(t, p);
-    let index = read_next(t, kind.end);
-    let value = read_next(t, index.end);
-    Call {
-        kind: kind.value,
-        index: index.value,
-        value: value.value,
-        end: value.end,
+// Puts a value at a place, if there is that place.
+fn set<T: Copy>(values: &mut [T], place: u64, value: T) {
+    let place = usize::try_from(place).ok();
+    if let Some(old) = place.and_then(|at| values.get_mut(at)) {
+        *old = value;
     }
 }
 
-// The parameters with one of them changed: K, N, S, B, T by their places.
-fn with_parameter(p: Parameters, index: u64, v: u32) -> Parameters {
-    let mut changed = p;
-    match index {
-        0 => changed.k = v,
-        1 => changed.n = v,
-        2 => changed.s = v,
-        3 => changed.b = v,
-        _ => changed.t = v,
-    }
-    changed
+// The parameters, the record and the buffers that the calls are made with.
+#[derive(Drop)]
+pub struct Machine<'a> {
+    pub parameters: Parameters,
+    pub rec: Record,
+    pub image: Vec<u32>,
+    pub input: &'a [u8],
+    pub registers: Vec<i32>,
+    pub cells: Vec<i32>,
 }
 
-// The record with one of its fields changed: the five parameters, then IAR, IRCR, SHR, the place, granted, spent.
-fn with_field(rec: Record, index: u64, v: u64) -> Record {
-    let mut changed = rec;
-    match index {
-        0..=4 => changed.parameters = with_parameter(rec.parameters, index, low(v)),
-        5 => changed.iar = low(v),
-        6 => changed.ircr = low(v),
-        7 => changed.shr = signed(v),
-        8 => changed.place = v as usize,
-        9 => changed.granted = v,
-        _ => changed.spent = v,
+impl<'a> Machine<'a> {
+    fn put_memory(&self, to: &mut Printer) {
+        to.put_values(&self.registers);
+        to.put_values(&self.cells);
     }
-    changed
-}
 
-// Puts a word at a place of the image, if it has that place.
-fn set_word(image: &mut [u32], place: u64, word: u32) {
-    let at = place as usize;
-    if at < image.len() {
-        image[at] = word;
+    // What start gives: a refused one a record of zeros.
+    fn start(&mut self, to: &mut Printer) {
+        let parameters = self.parameters;
+        let started = start(
+            parameters,
+            &self.image,
+            &mut self.registers,
+            &mut self.cells,
+        );
+        self.rec = started.unwrap_or_default();
+        to.put(started.err().map_or(0, u32::from));
+        put_record(to, self.rec);
+        to.put_end();
+        self.put_memory(to);
     }
-}
 
-// Puts a value at a place of the values, if they have that place.
-fn set_value(values: &mut [i32], place: u64, value: i32) {
-    let at = place as usize;
-    if at < values.len() {
-        values[at] = value;
+    // What a grant gives with an output slice of at most 64 values, each 77 before the call.
+    fn grant(&mut self, to: &mut Printer, cycles: u64, room: usize)
+        requires { room ≤ 64 }
+    {
+        let mut values = [77i32; 64];
+        let out = &mut values[..room];
+        let rec = self.rec;
+        let input = self.input;
+        let granted = grant(
+            rec,
+            cycles,
+            &self.image,
+            input,
+            &mut self.registers,
+            &mut self.cells,
+            out,
+        );
+        put_granted(to, rec, granted);
+        self.rec = granted.map_or(rec, |grant| grant.rec);
+        self.put_memory(to);
+        to.put_values(out);
     }
-}
 
-// Changes a register, a data cell or a word of the image.
-fn set_memory(c: Call, image: &mut [u32], registers: &mut [i32], cells: &mut [i32]) {
-    let kind = c.kind;
-    match kind {
-        3 => set_value(registers, c.index, signed_low(low(c.value))),
-        4 => set_value(cells, c.index, signed_low(low(c.value))),
-        _ => set_word(image, c.index, low(c.value)),
+    // Changes a field of the record: the five parameters, then IAR, IRCR, SHR, the place, granted, spent.
+    fn set_field(&mut self, index: u64, v: u64) {
+        let rec = &mut self.rec;
+        match index {
+            0 => rec.parameters.k = low(v),
+            1 => rec.parameters.n = low(v),
+            2 => rec.parameters.s = low(v),
+            3 => rec.parameters.b = low(v),
+            4 => rec.parameters.t = low(v),
+            5 => rec.iar = low(v),
+            6 => rec.ircr = low(v),
+            7 => rec.shr = v.cast_signed(),
+            8 => rec.place = v as usize,
+            9 => rec.granted = v,
+            _ => rec.spent = v,
+        }
     }
-}
 
-// What start gives, and its record.
-fn run_start(
-    to: &mut Printer,
-    p: Parameters,
-    image: &[u32],
-    registers: &mut [i32],
-    cells: &mut [i32],
-) -> Record {
-    let reply = start(p, image, registers, cells);
-    let rec = reply.rec;
-    put(to, reply.refusal as u64);
-    put_record(to, rec);
-    put_end(to);
-    put_values(to, registers);
-    put_values(to, cells);
-    rec
-}
-
-// What a grant gives, and its record.
-fn run_grant(
-    to: &mut Printer,
-    cycles: u64,
-    rec: Record,
-    image: &[u32],
-    input: &[u8],
-    registers: &mut [i32],
-    cells: &mut [i32],
-    out: &mut [i32],
-) -> Record {
-    let reply = grant(rec, cycles, image, input, registers, cells, out);
-    put_granted(to, reply);
-    put_values(to, registers);
-    put_values(to, cells);
-    put_values(to, out);
-    reply.rec
-}
-
-// A grant with an output slice of at most 64 values, each 77 before the call.
-fn run_in_room(
-    to: &mut Printer,
-    c: Call,
-    rec: Record,
-    image: &[u32],
-    input: &[u8],
-    registers: &mut [i32],
-    cells: &mut [i32],
-) -> Record {
-    let room = at_most(c.index, 64);
-    let mut out = [77i32; 64];
-    run_grant(
-        to,
-        c.value,
-        rec,
-        image,
-        input,
-        registers,
-        cells,
-        &mut out[..room],
-    )
-}
-
-// The record behind a call or a change.
-fn run_call(
-    to: &mut Printer,
-    c: Call,
-    p: Parameters,
-    rec: Record,
-    image: &mut [u32],
-    input: &[u8],
-    registers: &mut [i32],
-    cells: &mut [i32],
-) -> Record {
-    let kind = c.kind;
-    if kind == 0 {
-        return run_start(to, p, image, registers, cells);
+    // Makes a call, or a change.
+    fn run_call(&mut self, to: &mut Printer, call: Call) {
+        let Call { kind, index, value } = call;
+        match kind {
+            Kind::Start => self.start(to),
+            Kind::Grant => self.grant(to, value, at_most(index, 64)),
+            Kind::SetField => self.set_field(index, value),
+            Kind::SetRegister => set(&mut self.registers, index, low(value).cast_signed()),
+            Kind::SetCell => set(&mut self.cells, index, low(value).cast_signed()),
+            Kind::SetWord => set(&mut self.image, index, low(value)),
+            Kind::PutImage => put_image(to, self.parameters, &self.image),
+        }
     }
-    if kind == 1 {
-        return run_in_room(to, c, rec, image, input, registers, cells);
-    }
-    if kind == 2 {
-        return with_field(rec, c.index, c.value);
-    }
-    if kind == 6 {
-        put_image(to, p, image);
-        return rec;
-    }
-    set_memory(c, image, registers, cells);
-    rec
-}
 
-// The calls from p on, and the place behind them.
-fn run_calls(
-    to: &mut Printer,
-    t: &[u8],
-    p: usize,
-    c: Case,
-    image: &mut [u32],
-    input: &[u8],
-    registers: &mut [i32],
-    cells: &mut [i32],
-) -> usize
-    requires { p ≤ length t.now }
-    ensures { (p ≤ result) × (result ≤ length t.now) }
-{
-    let mut rec = Record::fresh(c.parameters);
-    let mut at = p;
-    let mut left = c.calls;
-    while 0 < left {
-        let call = read_call(t, at);
-        rec = run_call(to, call, c.parameters, rec, image, input, registers, cells);
-        at = call.end;
-        left -= 1;
+    // The next calls, so many.
+    pub fn run_calls(&mut self, to: &mut Printer, reader: &mut Reader, count: u32)
+        ensures { length reader.new.rest.now ≤ length reader.old.rest.now }
+    {
+        for _ in 0..count {
+            let call = read_call(reader);
+            self.run_call(to, call);
+        }
     }
-    at
-}
-
-// What load gives, and the calls at p; the place behind them.
-pub fn run_text(
-    to: &mut Printer,
-    t: &[u8],
-    p: usize,
-    c: Case,
-    text: &[u8],
-    image: &mut [u32],
-    input: &[u8],
-    registers: &mut [i32],
-    cells: &mut [i32],
-) -> usize
-    requires { p ≤ length t.now }
-    ensures { (p ≤ result) × (result ≤ length t.now) }
-{
-    put_loaded(to, load(c.parameters, text, image));
-    run_calls(to, t, p, c, image, input, registers, cells)
 }

@@ -4,8 +4,8 @@ ghost use Rattle.model.specs.Parameters.{limit, Fit};
 ghost use Rattle.image.specs.Forms.{form_table};
 ghost use Rattle.prices.specs.Prices.{price_table};
 
-use crate::printer::{Printer, put, put_end, put_text};
-use bounds::limits::{limit_of, parameter_refusal};
+use crate::printer::Printer;
+use bounds::limits::{check_parameters, limit_of};
 use image::check::image_fits;
 use image::decode::{Decoded, decode};
 use image::forms::form_table;
@@ -13,19 +13,13 @@ use image::words::{content, kind};
 use model::Parameters;
 use prices::{cost, price_table, value_count};
 
-// A word's kind and content.
-fn put_word(to: &mut Printer, w: u32) {
-    put(to, kind(w) as u64);
-    put(to, content(w) as u64);
-}
-
+// The words' kinds and contents.
 fn put_words(to: &mut Printer, image: &[u32]) {
-    let mut i = 0;
-    while i < image.len() {
-        put_word(to, image[i]);
-        i += 1;
+    for &word in image {
+        to.put(kind(word).number());
+        to.put(content(word));
     }
-    put_end(to);
+    to.put_end();
 }
 
 // The cost of a cell's instruction and the count of the values that it writes; `-` for an empty cell, `!` for one that no text yields.
@@ -39,33 +33,24 @@ fn put_cell(to: &mut Printer, cell: &[u32], p: Parameters, m: u32, forms: &[u32]
     let decoded = decode(cell, p, m, forms);
     match decoded {
         Decoded::Runs(i) => {
-            put(to, cost(i, p, prices));
-            put(to, value_count(i.number, p) as u64);
+            to.put(cost(i, p, prices));
+            to.put(value_count(i.number, p));
         }
-        Decoded::Empty => {
-            put_text(to, b"- ");
-        }
-        Decoded::Invalid => {
-            put_text(to, b"! ");
-        }
+        Decoded::Empty => to.put_text(b"- "),
+        Decoded::Invalid => to.put_text(b"! "),
     }
 }
 
 fn put_cells(to: &mut Printer, p: Parameters, image: &[u32])
     requires fit { Fit p }
-    requires image_len { length image.now ≡ 4 * p.t }
 {
     let m = limit_of(p.k);
     let forms = form_table();
     let prices = price_table();
-    let end = image.len();
-    let mut at = 0;
-    while at < end {
-        let next = at + 4;
-        put_cell(to, &image[at..next], p, m, &forms, &prices);
-        at = next;
+    for cell in image.chunks_exact(4) {
+        put_cell(to, cell, p, m, &forms, &prices);
     }
-    put_end(to);
+    to.put_end();
 }
 
 // Whether the image fits: 1 or 0.
@@ -73,21 +58,14 @@ fn put_fits(to: &mut Printer, p: Parameters, image: &[u32])
     requires fit { Fit p }
     requires image_len { length image.now ≡ 4 * p.t }
 {
-    if image_fits(p, image) {
-        put(to, 1);
-    } else {
-        put(to, 0);
-    }
-    put_end(to);
+    to.put(u8::from(image_fits(p, image)));
+    to.put_end();
 }
 
 // The words; and the cells and whether the image fits, where this may be asked.
 pub fn put_image(to: &mut Printer, p: Parameters, image: &[u32]) {
     put_words(to, image);
-    if parameter_refusal(p) != 0 {
-        return;
-    }
-    if image.len() == 4 * (p.t as usize) {
+    if check_parameters(p).is_ok() && image.len() == 4 * (p.t as usize) {
         put_cells(to, p, image);
         put_fits(to, p, image);
     }

@@ -4,16 +4,17 @@
 // follows them in the buffer.
 #![tactic(auto)]
 
-ghost use Rattle.std.specs.Prelude.{◌≡◌, ◌<◌, ◌≤◌, length};
+ghost use Rattle.std.specs.Prelude.{◌≡◌, ◌^◌, ◌<◌, ◌≤◌, length};
 
-use crate::calls::{Case, run_text};
+use crate::calls::{Machine, put_loaded};
 use crate::printer::Printer;
-use crate::reader::{at_most, read_header};
+use crate::reader::{Reader, at_most};
 use crate::vectors::run_vector;
-use model::Parameters;
+use loader::load;
+use model::{Parameters, Record};
+use std::alloc::Global;
 use std::io;
 use std::io::Read;
-use text::tokens::next_token;
 
 mod calls;
 mod images;
@@ -21,100 +22,84 @@ mod printer;
 mod reader;
 mod vectors;
 
-// The image has at most 256 words; there are at most 32 registers and 64 data cells, and no more bytes than the buffer has.
-fn case_of(f: [u32; 12]) -> Case
-    ensures words_bound { (result.words ≤ 256) × (result.registers ≤ 32) × (result.cells ≤ 64) }
-    ensures own_bound { (result.own ≤ 131072) × (result.more ≤ 131072) }
-{
-    let parameters = Parameters {
-        k: f[0],
-        n: f[1],
-        s: f[2],
-        b: f[3],
-        t: f[4],
-    };
-    Case {
-        parameters,
-        words: at_most(f[5] as u64, 256),
-        registers: at_most(f[6] as u64, 32),
-        cells: at_most(f[7] as u64, 64),
-        own: at_most(f[9] as u64, 131072),
-        more: at_most(f[10] as u64, 131072),
-        calls: f[11],
-    }
+// Its numbers: the parameters, the lengths of the slices, the bytes of the text, the input's own and those beyond, and the count of calls. The image
+// has at most 256 words; there are at most 32 registers and 64 data cells, and no more bytes of input than the buffer has.
+#[derive(Clone, Copy)]
+struct Header {
+    parameters: Parameters,
+    words: usize,
+    registers: usize,
+    cells: usize,
+    text: usize,
+    own: usize,
+    beyond: usize,
+    calls: u32,
+    ghost bytes_bound: { (text < 2 ^ 32) × (own ≤ 131072) × (beyond ≤ 131072) },
 }
 
-// The case whose input is at p, and the place behind its calls; the buffer's end if it is short of input.
-fn run_slices(to: &mut Printer, t: &[u8], p: usize, c: Case, text: &[u8]) -> usize
-    requires p_in_bounds { p ≤ length t.now }
-    requires words_bound { (c.words ≤ 256) × (c.registers ≤ 32) × (c.cells ≤ 64) }
-    requires own_bound { (c.own ≤ 131072) × (c.more ≤ 131072) }
-    ensures { (p ≤ result) × (result ≤ length t.now) }
+fn read_header(reader: &mut Reader) -> Header
+    ensures { length reader.new.rest.now ≤ length reader.old.rest.now }
 {
-    let bytes = c.own + c.more;
-    if t.len() - p < bytes {
-        return t.len();
-    }
-    let calls = p + c.own;
-    let last = p + bytes;
-    let words = c.words;
-    let n = c.registers;
-    let s = c.cells;
-    let mut image = [7u32; 256];
-    let mut registers = [77i32; 32];
-    let mut cells = [77i32; 64];
-    run_text(
-        to,
+    let [
+        k,
+        n,
+        s,
+        b,
         t,
-        calls,
-        c,
+        words,
+        registers,
+        cells,
         text,
-        &mut image[..words],
-        &t[p..last],
-        &mut registers[..n],
-        &mut cells[..s],
-    )
+        own,
+        beyond,
+        calls,
+    ] = reader.fields();
+    Header {
+        parameters: Parameters { k, n, s, b, t },
+        words: at_most(u64::from(words), 256),
+        registers: at_most(u64::from(registers), 32),
+        cells: at_most(u64::from(cells), 64),
+        text: text as usize,
+        own: at_most(u64::from(own), 131072),
+        beyond: at_most(u64::from(beyond), 131072),
+        calls,
+    }
 }
 
-// The numbers at p, the text behind them and its calls; the buffer's end if it is short of text.
-fn run_calls_case(to: &mut Printer, t: &[u8], p: usize) -> usize
-    requires { p ≤ length t.now }
-    ensures { (p ≤ result) × (result ≤ length t.now) }
+// The next case of calls. Where the input is short of text or of input, it is read to its end.
+fn run_calls_case(alloc: Global, to: &mut Printer, reader: &mut Reader) -> io::Result<()>
+    ensures { length reader.new.rest.now ≤ length reader.old.rest.now }
 {
-    let header = read_header(t, p);
-    let end = header.end;
-    let fields = header.fields;
-    let bytes = fields[8] as usize;
-    if t.len() - end <= bytes {
-        return t.len();
-    }
-    let from = end + 1;
-    let next = from + bytes;
-    run_slices(to, t, next, case_of(fields), &t[from..next])
+    let header = read_header(reader);
+    let Some(text) = reader.bytes(1 + header.text, 0) else {
+        return Ok(());
+    };
+    let Some(input) = reader.bytes(header.own, header.beyond) else {
+        return Ok(());
+    };
+    let mut machine = Machine {
+        parameters: header.parameters,
+        rec: Record::fresh(header.parameters),
+        image: vec![in alloc; 7; header.words]?,
+        input,
+        registers: vec![in alloc; 77; header.registers]?,
+        cells: vec![in alloc; 77; header.cells]?,
+    };
+    put_loaded(to, load(header.parameters, &text[1..], &mut machine.image));
+    machine.run_calls(to, reader, header.calls);
+    Ok(())
 }
 
-// The case at p, and the place behind it; the buffer's end if there is none.
-fn run_case(to: &mut Printer, t: &[u8], p: usize) -> usize
-    requires { p ≤ length t.now }
-    ensures { (result ≤ length t.now) × (p < length t.now → p < result) }
-{
-    let word = next_token(t, p);
-    let a = word.start;
-    let b = word.end;
-    if a == b {
-        return t.len();
+fn run(alloc: Global, to: &mut Printer, input: &[u8]) -> io::Result<()> {
+    let mut reader = Reader::new(input);
+    while let Some(word) = reader.word() {
+        if word[0] == b'v' {
+            run_vector(to, &mut reader);
+        } else {
+            run_calls_case(alloc, to, &mut reader)?;
+        }
     }
-    if t[a] == b'v' {
-        return run_vector(to, t, b);
-    }
-    run_calls_case(to, t, b)
-}
-
-fn run(to: &mut Printer, t: &[u8]) {
-    let mut p = 0;
-    while p < t.len() {
-        p = run_case(to, t, p);
-    }
+    Ok(())
 }
 
 // Blanks, behind which the input of a case may end: it may have more than 65,536 bytes.
@@ -128,6 +113,6 @@ fn main(rt: HostRuntime) -> io::Result<()> {
     let mut input = blanks();
     io::copy(&mut rt.stdin().take(131072), &mut &mut input[..])?;
     let mut out = Printer::new(rt.alloc(), rt.stdout())?;
-    run(&mut out, &input);
+    run(rt.alloc(), &mut out, &input)?;
     out.finish()
 }

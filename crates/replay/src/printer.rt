@@ -1,5 +1,6 @@
 // The printer: numbers with a blank behind each, and LF.
 use std::alloc::Global;
+use std::fmt::Display;
 use std::io;
 use std::io::{BufWriter, Stdout, Write};
 use writer::decimal::write_decimal;
@@ -26,55 +27,40 @@ impl Printer {
         written?;
         out.flush()
     }
-}
 
-// Bytes as they are.
-pub fn put_text(to: &mut Printer, text: &[u8]) {
-    if to.written.is_ok() {
-        to.written = to.out.write_all(text);
+    // Bytes as they are.
+    pub fn put_text(&mut self, text: &[u8]) {
+        if self.written.is_ok() {
+            self.written = self.out.write_all(text);
+        }
     }
-}
 
-// A natural number.
-pub fn put(to: &mut Printer, value: u64) {
-    if to.written.is_ok() {
-        to.written = write!(to.out, "{value} ");
+    // A number.
+    pub fn put<T: Display + Copy>(&mut self, number: T) {
+        if self.written.is_ok() {
+            self.written = write!(self.out, "{number} ");
+        }
     }
-}
 
-// LF.
-pub fn put_end(to: &mut Printer) {
-    put_text(to, b"\n");
-}
-
-// A number of 64 bits with its sign.
-pub fn put_signed(to: &mut Printer, v: i64) {
-    if to.written.is_ok() {
-        to.written = write!(to.out, "{v} ");
+    // LF.
+    pub fn put_end(&mut self) {
+        self.put_text(b"\n");
     }
-}
 
-// The first n bytes and the blank behind them.
-fn put_bytes(to: &mut Printer, text: &[u8], n: usize) {
-    if n < text.len() {
-        let end = n + 1;
-        put_text(to, &text[..end]);
+    // A value, as the decimal writer spells it, and the blank behind it.
+    pub fn put_value(&mut self, value: i32) {
+        let mut text = [b' '; 12];
+        let count = write_decimal(value, &mut text).unwrap_or(0);
+        if let Some(spelled) = text.get(..=count) {
+            self.put_text(spelled);
+        }
     }
-}
 
-// A value, as the decimal writer spells it.
-pub fn put_value(to: &mut Printer, value: i32) {
-    let mut text = [b' '; 12];
-    let reply = write_decimal(value, &mut text);
-    put_bytes(to, &text, reply.count);
-}
-
-// Values on a line.
-pub fn put_values(to: &mut Printer, values: &[i32]) {
-    let mut i = 0;
-    while i < values.len() {
-        put_value(to, values[i]);
-        i += 1;
+    // Values on a line.
+    pub fn put_values(&mut self, values: &[i32]) {
+        for &value in values {
+            self.put_value(value);
+        }
+        self.put_end();
     }
-    put_end(to);
 }

@@ -1,107 +1,89 @@
-// The reader: decimal numbers between blanks, modulo 2^64.
-ghost use Rattle.std.specs.Prelude.{◌≤◌, length};
+// The reader: words between blanks, and decimal numbers modulo 2^64.
+ghost use Rattle.std.specs.Prelude.{◌≡◌, ◌+◌, ◌^◌, ◌<◌, ◌≤◌, length, IfSome, MatchOption};
 
-use std::num::{wrapping_add_u64, wrapping_sub_u64};
 use text::tokens::next_token;
 
-// A number, and the place behind it.
-#[derive(Clone, Copy)]
-pub struct Number {
-    pub value: u64,
-    pub end: usize,
+// What is left of the input.
+#[derive(Drop)]
+pub struct Reader<'a> {
+    rest: &'a [u8],
 }
 
-// The numbers before a text, and the place behind them.
-#[derive(Clone, Copy)]
-pub struct Header {
-    pub fields: [u32; 12],
-    pub end: usize,
-}
-
-// Ten times n, and a digit: the low four bits of its byte.
-fn append_digit(n: u64, b: u8) -> u64 {
-    let twice = wrapping_add_u64(n, n);
-    let five = wrapping_add_u64(wrapping_add_u64(twice, twice), n);
-    wrapping_add_u64(wrapping_add_u64(five, five), (b % 16) as u64)
-}
-
-// The number from a place on.
-fn read_natural(w: &[u8], from: usize) -> u64 {
-    let mut n: u64 = 0;
-    let mut i = from;
-    while i < w.len() {
-        n = append_digit(n, w[i]);
-        i += 1;
+impl<'a> Reader<'a> {
+    pub fn new(input: &'a [u8]) -> Self {
+        Reader { rest: input }
     }
-    n
+
+    // The next word, if there is one.
+    pub fn word(&mut self) -> Option<&'a [u8]>
+        ensures { MatchOption result (length self.new.rest.now ≤ length self.old.rest.now) (λ w. (0 < length w.now) × (length self.new.rest.now < length self.old.rest.now)) }
+    {
+        let span = next_token(self.rest, 0);
+        let word = &self.rest[span.start..span.end];
+        self.rest = &self.rest[span.end..];
+        if word.is_empty() { None } else { Some(word) }
+    }
+
+    // The next number, 0 if it is missing.
+    pub fn number(&mut self) -> u64
+        ensures { length self.new.rest.now ≤ length self.old.rest.now }
+    {
+        self.word().map_or(0, number_of)
+    }
+
+    // The next twelve numbers, of each its low 32 bits.
+    pub fn fields(&mut self) -> [u32; 12]
+        ensures { length self.new.rest.now ≤ length self.old.rest.now }
+    {
+        let mut fields = [0; 12];
+        for field in &mut fields {
+            *field = low(self.number());
+        }
+        fields
+    }
+
+    // The next n bytes and those beyond them, which are not read yet. An input that is short of them is read to its end.
+    pub fn bytes(&mut self, n: usize, beyond: usize) -> Option<&'a [u8]>
+        requires { n + beyond < 2 ^ 64 }
+        ensures shorter { length self.new.rest.now ≤ length self.old.rest.now }
+        ensures len { IfSome result (λ s. length s.now ≡ n + beyond) }
+    {
+        let bytes = self.rest.get(..n + beyond);
+        self.rest = if bytes.is_some() {
+            &self.rest[n..]
+        } else {
+            &[]
+        };
+        bytes
+    }
+}
+
+// n with one digit more: the low four bits of its byte.
+fn append_digit(n: u64, b: u8) -> u64 {
+    n.wrapping_mul(10).wrapping_add(u64::from(b % 16))
+}
+
+// The number that digits spell.
+fn natural_of(digits: &[u8]) -> u64 {
+    digits.iter().fold(0, |n, b| append_digit(n, *b))
 }
 
 // The number of a word: one behind a minus as its two's complement.
-fn read_value(w: &[u8]) -> u64 {
-    if w.len() == 0 {
-        return 0;
-    }
-    if w[0] == b'-' {
-        return wrapping_sub_u64(0, read_natural(w, 1));
-    }
-    read_natural(w, 0)
-}
-
-// The number at p, 0 if it is missing.
-pub fn read_next(t: &[u8], p: usize) -> Number
-    requires { p ≤ length t.now }
-    ensures { (p ≤ result.end) × (result.end ≤ length t.now) }
-{
-    let token = next_token(t, p);
-    let a = token.start;
-    let end = token.end;
-    Number {
-        value: read_value(&t[a..end]),
-        end,
+fn number_of(word: &[u8]) -> u64 {
+    match word.strip_prefix(b"-") {
+        Some(digits) => natural_of(digits).wrapping_neg(),
+        None => natural_of(word),
     }
 }
 
 // The low 32 bits.
 pub fn low(v: u64) -> u32 {
-    (v % 0x1_0000_0000) as u32
-}
-
-// 64 bits as a signed number.
-pub fn signed(v: u64) -> i64 {
-    if v < 0x8000_0000_0000_0000 {
-        return v as i64;
-    }
-    -1 - (0xFFFF_FFFF_FFFF_FFFF - v) as i64
-}
-
-// 32 bits as a signed number.
-pub fn signed_low(v: u32) -> i32 {
-    if v < 0x8000_0000 {
-        return v as i32;
-    }
-    -1 - (0xFFFF_FFFF - v) as i32
+    (v & 0xFFFF_FFFF) as u32
 }
 
 // The value, or the most that there may be.
 pub fn at_most(v: u64, most: usize) -> usize
     ensures { result ≤ most }
 {
-    if v < most as u64 { v as usize } else { most }
-}
-
-// The twelve numbers from p on.
-pub fn read_header(t: &[u8], p: usize) -> Header
-    requires { p ≤ length t.now }
-    ensures { (p ≤ result.end) × (result.end ≤ length t.now) }
-{
-    let mut fields = [0u32; 12];
-    let mut end = p;
-    let mut i = 0;
-    while i < 12 {
-        let number = read_next(t, end);
-        fields[i] = low(number.value);
-        end = number.end;
-        i += 1;
-    }
-    Header { fields, end }
+    usize::try_from(v).map_or(most, |v| v.min(most))
 }

@@ -2,77 +2,79 @@
 ghost use Rattle.std.specs.Prelude.{◌≤◌, length};
 ghost use Rattle.bounds.specs.Bounds.{IsLimit, Within};
 
-use crate::printer::{Printer, put, put_end, put_value};
-use crate::reader::read_next;
-use arithmetic::Computed;
+use crate::printer::Printer;
+use crate::reader::Reader;
+use arithmetic::ReturnCode;
 use bounds::limits::limit_of;
 use bounds::ranges::in_range;
-use numbers::reading::{Reading, read_number};
-use text::tokens::next_token;
+use numbers::reading::{NumberError, read_number};
 
-// A value, and the place behind it.
-#[derive(Clone, Copy)]
-struct Operand {
-    value: i32,
-    end: usize,
-}
-
-// The return code, then the value.
-fn put_computed(to: &mut Printer, c: Computed) {
-    put(to, c.code as u64);
-    put_value(to, c.value);
+// The return code, then the value; 0 for the one that there is not.
+fn put_computed(to: &mut Printer, computed: Result<i32, ReturnCode>) {
+    to.put(computed.err().map_or(0, u32::from));
+    to.put_value(computed.unwrap_or(0));
 }
 
 fn put_arithmetic(to: &mut Printer, m: u32, x: i32, y: i32)
     requires limit { IsLimit m }
     requires within { Within m x }
 {
-    put_computed(to, arithmetic::neg(m, x));
-    put_computed(to, arithmetic::abs(m, x));
-    put_computed(to, arithmetic::add(m, x, y));
-    put_computed(to, arithmetic::sub(m, x, y));
-    put_computed(to, arithmetic::mul(m, x, y));
-    put_computed(to, arithmetic::div(m, x, y));
-    put_computed(to, arithmetic::modulo(x, y));
+    for computed in [
+        arithmetic::neg(m, x),
+        arithmetic::abs(m, x),
+        arithmetic::add(m, x, y),
+        arithmetic::sub(m, x, y),
+        arithmetic::mul(m, x, y),
+        arithmetic::div(m, x, y),
+        arithmetic::modulo(x, y),
+    ] {
+        put_computed(to, computed);
+    }
 }
 
 fn put_comparisons(to: &mut Printer, x: i32, y: i32) {
-    put_value(to, logic::booleans::cmpeq(x, y));
-    put_value(to, logic::booleans::cmpneq(x, y));
-    put_value(to, logic::booleans::cmplt(x, y));
-    put_value(to, logic::booleans::cmpgt(x, y));
-    put_value(to, logic::booleans::cmple(x, y));
-    put_value(to, logic::booleans::cmpge(x, y));
+    for value in [
+        logic::booleans::cmpeq(x, y),
+        logic::booleans::cmpneq(x, y),
+        logic::booleans::cmplt(x, y),
+        logic::booleans::cmpgt(x, y),
+        logic::booleans::cmple(x, y),
+        logic::booleans::cmpge(x, y),
+    ] {
+        to.put_value(value);
+    }
 }
 
 fn put_booleans(to: &mut Printer, x: i32, y: i32) {
-    put_computed(to, logic::booleans::not(x));
-    put_computed(to, logic::booleans::and(x, y));
-    put_computed(to, logic::booleans::or(x, y));
-    put_computed(to, logic::booleans::xor(x, y));
-    put_computed(to, logic::booleans::nand(x, y));
-    put_computed(to, logic::booleans::nor(x, y));
+    for computed in [
+        logic::booleans::not(x),
+        logic::booleans::and(x, y),
+        logic::booleans::or(x, y),
+        logic::booleans::xor(x, y),
+        logic::booleans::nand(x, y),
+        logic::booleans::nor(x, y),
+    ] {
+        put_computed(to, computed);
+    }
 }
 
 fn put_bits(to: &mut Printer, m: u32, x: i32, y: i32)
     requires limit { IsLimit m }
     requires within { Within m x × Within m y }
 {
-    put_value(to, bitwise::bits::rnot(x));
-    put_value(to, bitwise::bits::rand(m, x, y));
-    put_value(to, bitwise::bits::ror(m, x, y));
-    put_value(to, bitwise::bits::rxor(m, x, y));
-    put_value(to, bitwise::bits::rnand(m, x, y));
-    put_value(to, bitwise::bits::rnor(m, x, y));
-}
-
-fn put_shifts(to: &mut Printer, m: u32, x: i32)
-    requires limit { IsLimit m }
-    requires within { Within m x }
-{
-    put_value(to, bitwise::bits::rsl(m, x));
-    put_value(to, bitwise::bits::rsr(m, x));
-    put_value(to, bitwise::bits::asr(x));
+    for value in [
+        bitwise::bits::rnot(x),
+        bitwise::bits::rand(m, x, y),
+        bitwise::bits::ror(m, x, y),
+        bitwise::bits::rxor(m, x, y),
+        bitwise::bits::rnand(m, x, y),
+        bitwise::bits::rnor(m, x, y),
+        bitwise::bits::rsl(m, x),
+        bitwise::bits::rsr(m, x),
+        bitwise::bits::asr(x),
+    ] {
+        to.put_value(value);
+    }
 }
 
 fn put_all(to: &mut Printer, m: u32, x: i32, y: i32)
@@ -83,42 +85,35 @@ fn put_all(to: &mut Printer, m: u32, x: i32, y: i32)
     put_comparisons(to, x, y);
     put_booleans(to, x, y);
     put_bits(to, m, x, y);
-    put_shifts(to, m, x);
 }
 
 // The results, if both values are in the range, and LF.
 fn put_line(to: &mut Printer, m: u32, x: i32, y: i32)
     requires { IsLimit m }
 {
-    if in_range(m, x) {
-        if in_range(m, y) {
-            put_all(to, m, x, y);
-        }
+    if in_range(m, x) && in_range(m, y) {
+        put_all(to, m, x, y);
     }
-    put_end(to);
+    to.put_end();
 }
 
 // What is no number is 0, and what is outside the range 1.
-fn value_of(r: Reading) -> i32 {
-    match r {
-        Reading::NotANumber => 0,
-        Reading::Number(v) => v,
-        Reading::Outside => 1,
+fn value_of(read: Result<i32, NumberError>) -> i32 {
+    match read {
+        Ok(value) => value,
+        Err(NumberError::NotANumber) => 0,
+        Err(NumberError::Outside) => 1,
     }
 }
 
-// The value at p.
-fn read_operand(t: &[u8], p: usize, m: u32) -> Operand
-    requires p_in_bounds { p ≤ length t.now }
-    requires limit { IsLimit m }
-    ensures { (p ≤ result.end) × (result.end ≤ length t.now) }
+// The next value.
+fn read_operand(reader: &mut Reader, m: u32) -> i32
+    requires { IsLimit m }
+    ensures { length reader.new.rest.now ≤ length reader.old.rest.now }
 {
-    let token = next_token(t, p);
-    let a = token.start;
-    let end = token.end;
-    Operand {
-        value: value_of(read_number(&t[a..end], m)),
-        end,
+    match reader.word() {
+        Some(word) => value_of(read_number(word, m)),
+        None => 0,
     }
 }
 
@@ -126,24 +121,15 @@ fn read_operand(t: &[u8], p: usize, m: u32) -> Operand
 fn bits_of(v: u64) -> u32
     ensures { (8 ≤ result) × (result ≤ 30) }
 {
-    if v < 8 {
-        return 8;
-    }
-    if 30 < v {
-        return 8;
-    }
-    v as u32
+    if matches!(v, 8..=30) { v as u32 } else { 8 }
 }
 
-// The vector at p, and the place behind it.
-pub fn run_vector(to: &mut Printer, t: &[u8], p: usize) -> usize
-    requires { p ≤ length t.now }
-    ensures { (p ≤ result) × (result ≤ length t.now) }
+// The next vector.
+pub fn run_vector(to: &mut Printer, reader: &mut Reader)
+    ensures { length reader.new.rest.now ≤ length reader.old.rest.now }
 {
-    let k = read_next(t, p);
-    let m = limit_of(bits_of(k.value));
-    let x = read_operand(t, k.end, m);
-    let y = read_operand(t, x.end, m);
-    put_line(to, m, x.value, y.value);
-    y.end
+    let m = limit_of(bits_of(reader.number()));
+    let x = read_operand(reader, m);
+    let y = read_operand(reader, m);
+    put_line(to, m, x, y);
 }

@@ -17,6 +17,7 @@ pub fn write_digits(n: u64, count: usize, out: &mut [u8])
 {
     let mut left = n;
     let mut at = count;
+    // Tried: a `for` over `rchunks_exact_mut`. Its contract does not say what the slice ends as, so that the proof does not close.
     while 2 <= at {
         let pair = left % 100;
         out[at - 1] = b'0' + (pair % 10) as u8;
