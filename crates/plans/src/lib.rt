@@ -17,7 +17,8 @@ use text::tokens::next_token;
 const SHR_WORD: u32 = FIRST_REGISTER + SHR;
 
 // A value, where it goes, and where the machine stands after the step. A failing step has its code in `next.ircr`, and nothing else counts.
-// `to` is the word of a register or data cell, or one of the targets below, which are smaller.
+// `to` is the word of a register or data cell, or one of the targets below, which are smaller: no enum, since an instruction's word goes there as it
+// stands, and operands read through an enum ran at less than half the speed.
 #[derive(Clone, Copy)]
 pub struct Plan {
     pub value: i32,
@@ -116,10 +117,7 @@ pub fn jump_when(taken: bool, t: u32, target: i32, at: Core) -> Plan
     requires { at.iar ≤ max_instructions }
     ensures { result ≡ taken_plan taken t target at }
 {
-    if taken {
-        return jump(t, target, at);
-    }
-    keep(at)
+    if taken { jump(t, target, at) } else { keep(at) }
 }
 
 // The same, where the value tested has to be Boolean.
@@ -128,9 +126,10 @@ pub fn jump_boolean(value: i32, taken: bool, t: u32, target: i32, at: Core) -> P
     ensures { result ≡ boolean_plan value taken t target at }
 {
     if is_boolean(value) {
-        return jump_when(taken, t, target, at);
+        jump_when(taken, t, target, at)
+    } else {
+        fail(2, at)
     }
-    fail(2, at)
 }
 
 // SKIP.
@@ -153,9 +152,7 @@ pub fn push(w: u32, value: i32, s: u32, at: Core) -> Plan
     }
     let raised = Core { top: top + 1, ..at };
     let to = FIRST_DIRECT + (top as u32);
-    if w == SHR_WORD {
-        return store(to, top as i32, raised);
-    }
+    let value = if w == SHR_WORD { top as i32 } else { value };
     store(to, value, raised)
 }
 
