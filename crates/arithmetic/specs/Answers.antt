@@ -1,6 +1,7 @@
 -- How the code hands back a value or a return code.
-use Rattle.std.specs.Prelude.{ℕ, ℤ, Result, Ok, Err}
-use Rattle.model.specs.Arithmetic.{Answer, value, code}
+use Rattle.std.specs.Prelude.{ℕ, ℤ, ◌≡◌, Result, Ok, Err, IfOk, IsOkUnless}
+use Rattle.model.specs.Arithmetic.{Answer, value, code, checked}
+use Rattle.bounds.specs.Bounds.{Within}
 use Rattle.arithmetic.specs.declared.ReturnCode.{ReturnCode}
 use Rattle.arithmetic.specs.declared.ReturnCode.TheVariants.{OutOfRange, DivisorZero, NotBoolean}
 
@@ -14,3 +15,9 @@ number_of NotBoolean = 1
 abbrev pub answer_of : Result ℤ ReturnCode → Answer
 answer_of (Ok z) = value z
 answer_of (Err c) = code (number_of c)
+
+-- What the code hands back for the exact result z: z in the range, or that it is outside.
+pub record IsChecked (m : ℕ) (z : ℤ) (r : Result ℤ ReturnCode) : Type 0 where
+  pub value : answer_of r ≡ checked m z
+  pub range : IfOk r (Within m)
+  pub reason : IsOkUnless r OutOfRange

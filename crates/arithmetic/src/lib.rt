@@ -1,11 +1,12 @@
-// NEG, ABS, ADD, SUB, MUL, DIV, MOD, INC and DEC. NEG and DIV work in 32 bits, the others and every range test in 64. m is document 01's M throughout.
+// NEG, ABS, ADD, SUB, MUL, DIV, MOD, INC and DEC. NEG and DIV work in 32 bits, the others and every range test in 64.
+// m is document 01's M throughout, a plain number, so that a contract hands it to the definitions as it is.
 #![tactic(auto)]
 
 ghost use Rattle.std.specs.Prelude.{◌≡◌, ◌≢◌, ◌≤◌, Err, IfOk, IsOkUnless, pos, neg_ℤ, nat_abs, ◌+ℤ◌, ◌-ℤ◌, ◌*ℤ◌};
 ghost use Rattle.std.specs.Int.Signed.{mag};
-ghost use Rattle.model.specs.Arithmetic.{checked, divide, remainder};
+ghost use Rattle.model.specs.Arithmetic.{divide, remainder};
 ghost use Rattle.bounds.specs.Bounds.{IsLimit, Within};
-ghost use Rattle.arithmetic.specs.Answers.{number_of, answer_of};
+ghost use Rattle.arithmetic.specs.Answers.{number_of, answer_of, IsChecked};
 
 use bounds::ranges::in_range_wide;
 
@@ -33,9 +34,7 @@ impl From<ReturnCode> for u32 {
 #[tactic(auto, unfolding(model::specs::Arithmetic::checked))]
 fn checked(m: u32, z: i64) -> Result<i32, ReturnCode>
     requires { IsLimit m }
-    ensures value { answer_of result ≡ checked m z }
-    ensures range { IfOk result (Within m) }
-    ensures reason { IsOkUnless result ReturnCode.OutOfRange }
+    ensures { IsChecked m z result }
 {
     if in_range_wide(m, z) {
         return Ok(z as i32);
@@ -46,18 +45,14 @@ fn checked(m: u32, z: i64) -> Result<i32, ReturnCode>
 pub fn neg(m: u32, x: i32) -> Result<i32, ReturnCode>
     requires limit { IsLimit m }
     requires within { Within m x }
-    ensures value { answer_of result ≡ checked m (neg_ℤ x) }
-    ensures range { IfOk result (Within m) }
-    ensures reason { IsOkUnless result ReturnCode.OutOfRange }
+    ensures { IsChecked m (neg_ℤ x) result }
 {
     checked(m, i64::from(-x))
 }
 
 pub fn abs(m: u32, x: i32) -> Result<i32, ReturnCode>
     requires { IsLimit m }
-    ensures value { answer_of result ≡ checked m (pos (nat_abs x)) }
-    ensures range { IfOk result (Within m) }
-    ensures reason { IsOkUnless result ReturnCode.OutOfRange }
+    ensures { IsChecked m (pos (nat_abs x)) result }
 {
     checked(m, i64::from(x).abs())
 }
@@ -65,9 +60,7 @@ pub fn abs(m: u32, x: i32) -> Result<i32, ReturnCode>
 // ADD and INC.
 pub fn add(m: u32, x: i32, y: i32) -> Result<i32, ReturnCode>
     requires { IsLimit m }
-    ensures value { answer_of result ≡ checked m (x +ℤ y) }
-    ensures range { IfOk result (Within m) }
-    ensures reason { IsOkUnless result ReturnCode.OutOfRange }
+    ensures { IsChecked m (x +ℤ y) result }
 {
     checked(m, i64::from(x) + i64::from(y))
 }
@@ -75,18 +68,14 @@ pub fn add(m: u32, x: i32, y: i32) -> Result<i32, ReturnCode>
 // SUB and DEC.
 pub fn sub(m: u32, x: i32, y: i32) -> Result<i32, ReturnCode>
     requires { IsLimit m }
-    ensures value { answer_of result ≡ checked m (x -ℤ y) }
-    ensures range { IfOk result (Within m) }
-    ensures reason { IsOkUnless result ReturnCode.OutOfRange }
+    ensures { IsChecked m (x -ℤ y) result }
 {
     checked(m, i64::from(x) - i64::from(y))
 }
 
 pub fn mul(m: u32, x: i32, y: i32) -> Result<i32, ReturnCode>
     requires { IsLimit m }
-    ensures value { answer_of result ≡ checked m (x *ℤ y) }
-    ensures range { IfOk result (Within m) }
-    ensures reason { IsOkUnless result ReturnCode.OutOfRange }
+    ensures { IsChecked m (x *ℤ y) result }
 {
     checked(m, i64::from(x) * i64::from(y))
 }

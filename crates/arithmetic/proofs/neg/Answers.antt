@@ -14,8 +14,8 @@ fits c = record { sfits = omega (arith, mag_neg c.args.x, c.requires.within, at_
 pub overflow_sub-x : goal.overflow_sub-x
 overflow_sub-x c = rw (to_z-of_z c.ranges.x) (zero-minus-fits c.args.x (fits c))
 
-pub returns-clause-value : goal.returns-clause-value
-returns-clause-value c =
+pub returns : goal.returns
+returns c =
     let e = rw (to_z-of_z c.ranges.x, to_z-of_z (zero-minus-fits c.args.x (fits c.before.before)), zero_minus c.args.x) at c.from.ensures in
     let f : SFits w64 c.from.result = record { sfits = c.from.type_inv } in
-    rw (to_z-of_z f, e) at c.checked.ensures.value
+    rw (to_z-of_z f, e) at c.checked.ensures
