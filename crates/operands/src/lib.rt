@@ -18,6 +18,7 @@ pub struct Core {
 }
 
 // A register where there are none but the special ones.
+#[tactic(auto, unfolding(model::specs::Step::register_value))]
 fn special_value(index: u32, at: Core) -> i32
     requires { Bounded at [] }
     ensures { result ≡ register_value (state_of at [] []) index }
@@ -34,15 +35,12 @@ fn special_value(index: u32, at: Core) -> i32
 fn cell_value(index: u32, cells: &[i32]) -> i32
     ensures { result ≡ slice_index_or cells.now index (pos 0) }
 {
-    let i = index as usize;
-    if i < cells.len() {
-        return cells[i];
-    }
-    0
+    cells.get(index as usize).copied().unwrap_or(0)
 }
 
 // What a word says where there are no registers but the special ones. Numbers come first, which jumps and SET have; the kind is tested by
 // its bounds, since a jump by its value is slower.
+#[tactic(auto, unfolding(model::specs::Step::value_of, model::specs::Step::register_value))]
 fn other_value(w: u32, at: Core, cells: &[i32]) -> i32
     requires { Bounded at [] }
     ensures { result ≡ value_of (state_of at [] cells.now) w }
@@ -60,13 +58,14 @@ fn other_value(w: u32, at: Core, cells: &[i32]) -> i32
 }
 
 // What a word of a cell says. One test finds a register by kind and index, which is most often what is read.
+#[tactic(auto, unfolding(model::specs::Step::value_of, model::specs::Step::register_value))]
 pub fn read(w: u32, at: Core, registers: &[i32], cells: &[i32]) -> i32
     requires { Bounded at registers.now }
     ensures { result ≡ value_of (state_of at registers.now cells.now) w }
 {
-    let r = std::num::wrapping_sub_u32(w, FIRST_REGISTER) as usize;
-    if r < registers.len() {
-        return registers[r];
+    let register = w.wrapping_sub(FIRST_REGISTER) as usize;
+    match registers.get(register) {
+        Some(&value) => value,
+        None => other_value(w, at, cells),
     }
-    other_value(w, at, cells)
 }
