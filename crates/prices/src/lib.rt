@@ -82,10 +82,13 @@ pub fn cost(i: Instruction, p: Parameters, prices: &[u32]) -> u64
     }
 }
 
-// How many values an instruction writes: most often none.
+// How many values an instruction writes: most often none. Tested first and apart: with the match alone a counting loop takes a fifth longer.
 pub fn value_count(number: u32, p: Parameters) -> usize
     ensures { result ≡ value_count p (row_of number).operation }
 {
+    if 6 < number {
+        return 0;
+    }
     match number {
         3 => p.n as usize,
         4 => p.s as usize,
