@@ -8,40 +8,11 @@ ghost use Rattle.effects.specs.Effects.{output_after, Indexed};
 use model::words::{FIRST_DIRECT, FIRST_REGISTER};
 use plans::Plan;
 
-// The values of a block.
-const BLOCK: usize = 512;
-
 // Zero in each place.
 pub fn clear(values: &mut [i32])
     ensures { values.new ≡ replicate (length values.old) (pos 0) }
 {
-    let mut i = 0;
-    while i < values.len() {
-        values[i] = 0;
-        i += 1;
-    }
-}
-
-// The values at the front of the output, one by one.
-fn copy(values: &[i32], out: &mut [i32])
-    requires { length values.now ≤ length out.old }
-    ensures { out.new ≡ output_after values.now out.old }
-{
-    let mut count = 0;
-    while count < values.len() {
-        out[count] = values[count];
-        count += 1;
-    }
-}
-
-// A block of values. By way of a local array the compiler sees that neither copy overlaps, and moves the block as a whole.
-fn copy_block(values: &[i32], out: &mut [i32])
-    requires { (length values.now ≡ 512) × (512 ≤ length out.old) }
-    ensures { out.new ≡ output_after values.now out.old }
-{
-    let mut block = [0i32; BLOCK];
-    copy(values, &mut block);
-    copy(&block, out)
+    values.fill(0)
 }
 
 // The values at the front of the output.
@@ -49,13 +20,7 @@ fn dump(values: &[i32], out: &mut [i32])
     requires { length values.now ≤ length out.old }
     ensures { out.new ≡ output_after values.now out.old }
 {
-    let mut at = 0;
-    while BLOCK <= values.len() - at {
-        let end = at + BLOCK;
-        copy_block(&values[at..end], &mut out[at..]);
-        at = end;
-    }
-    copy(&values[at..], &mut out[at..])
+    out[..values.len()].copy_from_slice(values)
 }
 
 // One value at the front of the output.
@@ -73,13 +38,11 @@ fn write(to: u32, value: i32, registers: &mut [i32], cells: &mut [i32])
     ensures registers_after { registers.new ≡ registers_after to value registers.old }
     ensures cells_after { cells.new ≡ cells_after to value cells.old }
 {
-    let register = std::num::wrapping_sub_u32(to, FIRST_REGISTER) as usize;
+    let register = to.wrapping_sub(FIRST_REGISTER) as usize;
+    let cell = to.wrapping_sub(FIRST_DIRECT) as usize;
     if register < registers.len() {
         registers[register] = value;
-        return;
-    }
-    let cell = std::num::wrapping_sub_u32(to, FIRST_DIRECT) as usize;
-    if cell < cells.len() {
+    } else if cell < cells.len() {
         cells[cell] = value;
     }
 }
@@ -92,24 +55,13 @@ fn apply_other(to: u32, value: i32, registers: &mut [i32], cells: &mut [i32], ou
     ensures cells_after { cells.new ≡ cells_after to value cells.old }
     ensures out_after { out.new ≡ output_after (values_of to value registers.old cells.old) out.old }
 {
-    if to == Plan::CLEAR_REGISTERS {
-        clear(registers);
-        return;
-    }
-    if to == Plan::CLEAR_CELLS {
-        clear(cells);
-        return;
-    }
-    if to == Plan::DUMP_REGISTERS {
-        dump(registers, out);
-        return;
-    }
-    if to == Plan::DUMP_CELLS {
-        dump(cells, out);
-        return;
-    }
-    if to == Plan::OUTPUT {
-        output_value(value, out);
+    match to {
+        Plan::CLEAR_REGISTERS => clear(registers),
+        Plan::CLEAR_CELLS => clear(cells),
+        Plan::DUMP_REGISTERS => dump(registers, out),
+        Plan::DUMP_CELLS => dump(cells, out),
+        Plan::OUTPUT => output_value(value, out),
+        _ => {}
     }
 }
 
@@ -123,11 +75,8 @@ pub fn apply(plan: Plan, registers: &mut [i32], cells: &mut [i32], out: &mut [i3
 {
     let to = plan.to;
     if Plan::OUTPUT < to {
-        write(to, plan.value, registers, cells);
-        return;
+        write(to, plan.value, registers, cells)
+    } else if to != Plan::NOWHERE {
+        apply_other(to, plan.value, registers, cells, out)
     }
-    if to == Plan::NOWHERE {
-        return;
-    }
-    apply_other(to, plan.value, registers, cells, out)
 }

@@ -1,9 +1,0 @@
-use Rattle.std.proofs.Common.{◌≡◌, ◌-◌, ◌≤◌, length}
-use Rattle.effects.proofs.CopyLaws.{front, zeros}
-use Rattle.effects.proofs.clear.Given as goal
-
-abbrev pub invariant-loop-i : goal.invariant-loop-i
-invariant-loop-i l = (l.i ≤ length l.initial.values) × (length l.values ≡ length l.initial.values) × (l.values ≡ front (zeros l.initial.values) l.initial.values l.i)
-
-abbrev pub decreases-loop-i : goal.decreases-loop-i
-decreases-loop-i l = length l.initial.values - l.i
