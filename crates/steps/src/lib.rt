@@ -33,12 +33,7 @@ pub fn step(
     let plan = choose(i, x, y, p, m, at, registers, cells, input);
     let code = plan.next.ircr;
     if code != 0 {
-        return Core {
-            iar: at.iar,
-            ircr: code,
-            top: at.top,
-            place: at.place,
-        };
+        return Core { ircr: code, ..at };
     }
     apply(plan, registers, cells, out);
     plan.next
