@@ -22,7 +22,7 @@ use Rattle.operands.specs.Cores.{state_of}
 use Rattle.operands.specs.declared.Core.{Core}
 use Rattle.prices.proofs.PriceLaws.{written_count}
 use Rattle.prices.specs.Prices.{value_count}
-use Rattle.engine.specs.declared.looks.Found.TheVariants.{Stops, Runs}
+use Rattle.std.specs.Prelude.{Ok, Err}
 use Rattle.engine.specs.Looks.{found_of, found_at}
 
 -- THE STATUS
@@ -42,11 +42,11 @@ module _ (e : Environment) (s : State) (allowance room : ℕ) where
   unfolding look_at
   looked h k l m n = rw (h, k, l, m, n)
 
-  pub found-failed : ¬ (s.ircr ≡ 0) → Stops Failed ≡ found_at e s allowance room
+  pub found-failed : ¬ (s.ircr ≡ 0) → Err Failed ≡ found_at e s allowance room
   unfolding look
   found-failed h = looked (is-failed e s h) refl refl refl refl
 
-  pub found-end : s.ircr ≡ 0 → s.iar ≡ e.parameters.t → Stops Ended ≡ found_at e s allowance room
+  pub found-end : s.ircr ≡ 0 → s.iar ≡ e.parameters.t → Err Ended ≡ found_at e s allowance room
   unfolding look
   found-end z h = looked (at-end e s z h) refl refl refl refl
 
@@ -57,6 +57,10 @@ pub record Reads (p : Parameters) (image : List ℕ) (at : Core) (i : Instructio
   pub within : at.iar ≤ p.t
   pub not_last : ¬ (at.iar ≡ p.t)
   pub read : i ≡ instruction_of (cell_of (take (4 * at.iar + 4 - 4 * at.iar) (drop (4 * at.iar) image)))
+
+pub reads : (p : Parameters) (image : List ℕ) (at : Core) {i : Instruction} → image_fits p image ≡ true → at.ircr ≡ 0 → at.iar ≤ p.t → ¬ (at.iar ≡ p.t) →
+    i ≡ instruction_of (cell_of (take (4 * at.iar + 4 - 4 * at.iar) (drop (4 * at.iar) image))) → Reads p image at i
+reads p image at f s w n r = record { fits = f; succeeded = s; within = w; not_last = n; read = r }
 
 module _ {p : Parameters} {image : List ℕ} {at : Core} {i : Instruction} (h : Reads p image at i) where
   inside : at.iar < p.t
@@ -88,7 +92,7 @@ module _ {p : Parameters} {image : List ℕ} {at : Core} {i : Instruction} (h : 
     unfolding state_status
     status-there k = rw (eq-eqb at.ircr 0 h.succeeded, ne_eqb at.iar p.t h.not_last, k)
 
-    pub found_empty : i.number ≡ 0 → Stops Ended ≡ found_at e s allowance room
+    pub found_empty : i.number ≡ 0 → Err Ended ≡ found_at e s allowance room
     unfolding look
     found_empty z = looked e s allowance room (status-there (is_empty_there z)) refl refl refl refl
 
@@ -97,7 +101,7 @@ module _ {p : Parameters} {image : List ℕ} {at : Core} {i : Instruction} (h : 
       unfolding step_cost
       cost-there = sym (priced ∙ ap (cost_of p) is-cell)
 
-      pub found_paused : allowance < cost → Stops Paused ≡ found_at e s allowance room
+      pub found_paused : allowance < cost → Err Paused ≡ found_at e s allowance room
       unfolding look
       found_paused l = looked e s allowance room (status-there (not_empty n)) cost-there refl (lt-ltb allowance cost l) refl
 
@@ -109,11 +113,11 @@ module _ {p : Parameters} {image : List ℕ} {at : Core} {i : Instruction} (h : 
             written_count p (row_of (cell_at image at.iar).head).operation (cell_at image at.iar) s ns ss
             ∙ sym (counted ∙ ap (λ (c : Cell). value_count p (row_of c.head).operation) is-cell)
 
-        pub found-full : room < values → Stops OutputFull ≡ found_at e s allowance room
+        pub found-full : room < values → Err OutputFull ≡ found_at e s allowance room
         unfolding look
         found-full l = looked e s allowance room (status-there (not_empty n)) cost-there values-there (le-ltb allowance cost enough) (lt-ltb room values l)
 
-        pub found-runs : values ≤ room → Runs (record { instruction = i; cost = cost; values = values }) ≡ found_at e s allowance room
+        pub found-runs : values ≤ room → Ok (record { instruction = i; cost = cost; values = values }) ≡ found_at e s allowance room
         unfolding look
         found-runs l =
             rw (ap instruction_of is-cell, ← cost-there, ← values-there)

@@ -12,6 +12,7 @@ use borrow.Author.Rules.{part_to_end}
 use borrow.Rule.Slice.PartMut.{put_mid}
 use Rattle.model.proofs.Cells.{cell-fits}
 use Rattle.model.proofs.Costs.{priced, tak-run}
+use Rattle.model.proofs.Fits.{Sized}
 use Rattle.model.proofs.Keeps.{Sound, is_running, step_keeps}
 use Rattle.model.proofs.Laws.{Goes, going}
 use Rattle.model.specs.Grants.{RunState, Stop, advance, run}
@@ -23,8 +24,8 @@ use Rattle.model.specs.declared.Ending.{Ending}
 use Rattle.effects.specs.Effects.{output_after}
 use Rattle.image.specs.Decode.{instruction_of, cell_from}
 use Rattle.engine.specs.Looks.{found_of, found_at}
-use Rattle.engine.specs.declared.looks.Found.TheVariants.{Stops, Runs}
-use Rattle.engine.specs.declared.looks.Found.{Found}
+use Rattle.std.specs.Prelude.{Ok, Err}
+use Rattle.std.specs.Prelude.{Result}
 use Rattle.engine.specs.declared.looks.Offer.{Offer}
 use Rattle.operands.specs.Cores.{state_in}
 use Rattle.operands.specs.declared.Core.{Core}
@@ -36,11 +37,11 @@ module _ (e : Environment) (s : State) where
   abbrev offered : Offer
   offered = record { instruction = instruction_of (current_cell e s); cost = step_cost e s; values = length (step_values e s) }
 
-  found-stops : (v : Look) {x : Ending} → Stops x ≡ found_of e s v → v ≡ stops x
+  found-stops : (v : Look) {x : Ending} → Err x ≡ found_of e s v → v ≡ stops x
   found-stops (stops y) h = cc
   found-stops goes h = cc
 
-  found-runs : (v : Look) {o : Offer} → Runs o ≡ found_of e s v → (v ≡ goes) × (o ≡ offered)
+  found-runs : (v : Look) {o : Offer} → Ok o ≡ found_of e s v → (v ≡ goes) × (o ≡ offered)
   found-runs (stops y) h = (cc, cc)
   found-runs goes h = (refl, cc)
 
@@ -99,8 +100,15 @@ module _ {e : Environment} {start : Core} {before granted : ℕ} {memory₀ : Me
   abbrev s : State
   s = state_in at memory
 
-  abbrev pub found : Found
+  abbrev pub found : Result Offer Ending
   found = found_at e s (granted - spent) (length slice - count)
+
+  -- What the look answered is that.
+  pub is-found : {r : Result Offer Ending} →
+      ((input : List ℕ) (m : Memory) → Sized e.parameters m → r ≡ found_at (environment_of e.parameters e.image input) (state_in at m) (granted - spent) (length slice - count)) →
+      {x : Result Offer Ending} → r ≡ x → x ≡ found
+  is-found looked k =
+      sym k ∙ looked e.input memory (record { register-count = g.sound.register-count; cell-count = g.sound.cell-count })
 
   abbrev seen : Look
   seen = look_at (Tak e) s (granted - spent) (length slice - count)
@@ -115,7 +123,7 @@ module _ {e : Environment} {start : Core} {before granted : ℕ} {memory₀ : Me
       ∙ rw (length-take-le count slice g.within, g.long)
 
   -- A look that stops: all is as `run` of model says.
-  pub stopped : {x : Ending} → Stops x ≡ found →
+  pub stopped : {x : Ending} → Err x ≡ found →
       RunIs e start before granted memory₀ slice₀ (record { ending = x; core = at; spent = spent; count = count }) memory slice
   stopped {x} f =
       record {
@@ -138,7 +146,7 @@ module _ {e : Environment} {start : Core} {before granted : ℕ} {memory₀ : Me
       whole = rw (n, ← g.rest, take-append-drop)
 
   -- A look that goes on.
-  module _ {o : Offer} (f : Runs o ≡ found) where
+  module _ {o : Offer} (f : Ok o ≡ found) where
     went : seen ≡ goes
     went = (found-runs e s seen f).0
 

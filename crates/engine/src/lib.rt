@@ -6,7 +6,7 @@ pub mod looks;
 ghost use Rattle.model.specs.Step.{as_memory, environment_of};
 ghost use Rattle.engine.specs.Runs.{Runnable, RunIs};
 
-use crate::looks::{Found, look};
+use crate::looks::look;
 use model::{Ending, Parameters};
 use operands::Core;
 use steps::step;
@@ -43,28 +43,18 @@ pub fn run(
     let mut spent = before;
     let mut count = 0;
     loop {
-        let found = look(at, p, image, prices, granted - spent, out.len() - count);
-        match found {
-            Found::Stops(ending) => return Ran {
+        match look(at, p, image, prices, granted - spent, out.len() - count) {
+            Err(ending) => return Ran {
                 ending,
                 core: at,
                 spent,
                 count,
             },
-            Found::Runs(offer) => {
-                let from = count;
+            Ok(offer) => {
+                let rest = &mut out[count..];
                 spent += offer.cost;
                 count += offer.values;
-                at = step(
-                    offer.instruction,
-                    p,
-                    m,
-                    at,
-                    input,
-                    registers,
-                    cells,
-                    &mut out[from..],
-                );
+                at = step(offer.instruction, p, m, at, input, registers, cells, rest);
             }
         }
     }

@@ -20,14 +20,7 @@ pub struct Offer {
     pub values: usize,
 }
 
-// What is found before a step: the ending, or the step that may run.
-#[derive(Clone, Copy)]
-pub enum Found {
-    Stops(Ending),
-    Runs(Offer),
-}
-
-// In order: failed, ended, paused, output full. The memory has no part in it but its lengths.
+// The step that may run, or in order: failed, ended, paused, output full. The memory has no part in it but its lengths.
 pub fn look(
     at: Core,
     p: Parameters,
@@ -35,7 +28,7 @@ pub fn look(
     prices: &[u32],
     allowance: u64,
     room: usize,
-) -> Found
+) -> Result<Offer, Ending>
     requires prices_value { prices.now ≡ price_table }
     requires image_len { length image.now ≡ 4 * p.t }
     requires image_value { image_fits p image.now ≡ true }
@@ -43,30 +36,30 @@ pub fn look(
     ensures { (input : List ℕ) (m : Memory) → Sized p m → result ≡ found_at (environment_of p image.now input) (state_in at m) allowance room }
 {
     if at.ircr != 0 {
-        return Found::Stops(Ending::Failed);
+        return Err(Ending::Failed);
     }
     let iar = at.iar;
     if iar == p.t as usize {
-        return Found::Stops(Ending::Ended);
+        return Err(Ending::Ended);
     }
     let first = 4 * iar;
     let end = first + 4;
     let i = read_cell(&image[first..end]);
     let number = i.number;
     if number == 0 {
-        return Found::Stops(Ending::Ended);
+        return Err(Ending::Ended);
     }
     let cycles = cost(i, p, prices);
     if allowance < cycles {
-        return Found::Stops(Ending::Paused);
+        return Err(Ending::Paused);
     }
     let values = value_count(number, p);
     if room < values {
-        return Found::Stops(Ending::OutputFull);
+        return Err(Ending::OutputFull);
     }
-    Found::Runs(Offer {
+    Ok(Offer {
         instruction: i,
         cost: cycles,
-        values: values,
+        values,
     })
 }
