@@ -237,8 +237,7 @@ use Rattle.model.specs.declared.Parameters.{Parameters}
 use Rattle.model.specs.declared.Record.{Record}
 use Rattle.model.specs.declared.Ending.{Ending}
 use Rattle.model.specs.declared.Ending.TheVariants.{Failed, Ended, Paused, OutputFull}
-use Rattle.model.specs.declared.Outcome.{Outcome}
-use Rattle.model.specs.declared.Outcome.TheVariants.{Refused, Stopped}
+use Rattle.model.specs.Grants.{Outcome, Refused, Stopped}
 use Rattle.model.specs.Load.{image_after}
 use Rattle.model.specs.Step.{environment_of, as_memory}
 use Rattle.model.specs.Calls.{as_held, as_call}"""

@@ -1,6 +1,6 @@
 -- The answers of `begin`, `open`, `finish` and `run_grant`, from what the calls under them promise. Assumes nothing.
 use Prim.Native.Nat.{ℕ, zero, suc, ◌≤◌}
-use mathlib.Core.Bool.{true, false, false≢true}
+use mathlib.Core.Bool.{Bool, true, false}
 use mathlib.Core.List.{List, [], ◌∷◌, ◌++◌}
 use mathlib.Core.Path.{◌≡◌, refl, sym, ap, ◌∙◌}
 use mathlib.Core.Logic.{⊎_elim}
@@ -27,10 +27,11 @@ use Rattle.model.specs.Load as load
 use Rattle.model.specs.Grants as outcome
 use Rattle.model.specs.declared.Parameters.{Parameters}
 use Rattle.model.specs.Calls.{StartReply}
+use Rattle.std.specs.Prelude.{Some, None}
 use Rattle.session.proofs.Pieces.{put_then, put_front}
 use Rattle.session.specs.Puts.{Put}
 use Rattle.session.proofs.Advance.{full-progress}
-use Rattle.session.specs.Sessions.{start_line, Shows, BeginIs, OpenIs, ReportIs}
+use Rattle.session.specs.Sessions.{followed_by, start_line, Shows, BeginIs, OpenIs, ReportIs}
 use Rattle.session.specs.declared.Report.{Report}
 
 -- Lines that were put in front of the buffer.
@@ -50,36 +51,34 @@ module _ (e : Environment) (memory₀ : Memory) (lines₀ : List ℕ) {x : Start
   number = ap (λ (y : Started). y.reply.refusal) is.given
 
   pub not-begun : ¬ (s.refusal ≡ 0) → {lines₁ : List ℕ} {r : ℕ} → Put lines₀ 0 (refusal_line s.refusal 0) lines₁ r →
-      BeginIs e memory₀ lines₀ (record { count = r; more = false; rec = s.rec; cycles = 0 }) x.memory lines₁
+      BeginIs e memory₀ lines₀ (record { count = r; rec = s.rec; next = None }) x.memory lines₁
   not-begun h put =
       record {
         shows = shown (refusal_line s.refusal 0) (start-line s.refusal h ∙ ap start_line number) put;
-        more = sym (ne_eqb (started e memory₀).reply.refusal 0 (λ q. h (number ∙ q)));
+        next = rw (ne_eqb (started e memory₀).reply.refusal 0 (λ q. h (number ∙ q)));
         rec = ap (λ (y : Started). y.reply.rec) is.given;
-        cycles = λ q. absurd (false≢true q);
         memory = ap (λ (y : Started). y.memory) is.given;
       }
 
   pub has-begun : s.refusal ≡ 0 →
-      BeginIs e memory₀ lines₀ (record { count = 0; more = true; rec = s.rec; cycles = first_grant }) x.memory lines₀
+      BeginIs e memory₀ lines₀ (record { count = 0; rec = s.rec; next = Some first_grant }) x.memory lines₀
   has-begun h =
       let none = sym number ∙ h in
       record {
         shows = rw none (record { count = refl; lines = refl });
-        more = sym (eq-eqb (started e memory₀).reply.refusal 0 none);
+        next = rw (eq-eqb (started e memory₀).reply.refusal 0 none);
         rec = ap (λ (y : Started). y.reply.rec) is.given;
-        cycles = λ q. refl;
         memory = ap (λ (y : Started). y.memory) is.given;
       }
 
 -- LOAD, THEN START
 module _ (p : Parameters) (text image₀ image₁ : List ℕ) (memory₀ : Memory) (lines₀ : List ℕ) {l : LoadReply}
     (is : l ≡ load_reply p text image₀) (image : image₁ ≡ image_after p text image₀ l) where
-  pub not-loaded : {k i : ℕ} → l ≡ load.Refused k i → {lines₁ : List ℕ} (r : Report) → r.more ≡ false →
+  pub not-loaded : {k i : ℕ} → l ≡ load.Refused k i → {lines₁ : List ℕ} (r : Report) → r.next ≡ None →
       Put lines₀ 0 (refusal_line k i) lines₁ r.count → OpenIs p text image₀ memory₀ lines₀ r image₁ memory₀ lines₁
-  not-loaded e r more put =
+  not-loaded e r next put =
       let q = sym is ∙ e in
-      record { image = image ∙ rw is; by = rw q (record { shows = shown _ refl put; more = more; memory = refl }) }
+      record { image = image ∙ rw is; by = rw q (record { shows = shown _ refl put; next = next; memory = refl }) }
 
   pub has-loaded : {n : ℕ} → l ≡ load.Accepted n → {r : Report} {memory₁ : Memory} {lines₁ : List ℕ} →
       BeginIs (environment_of p image₁ []) memory₀ lines₀ r memory₁ lines₁ →
@@ -87,28 +86,28 @@ module _ (p : Parameters) (text image₀ image₁ : List ℕ) (memory₀ : Memor
   has-loaded e begins = let q = sym is ∙ e in record { image = image ∙ rw is; by = rw q begins }
 
 -- THE LAST LINE
--- What `finish` promises of where it stopped, of `more`, the record and the next grant's cycles.
+-- What `finish` promises of where it stopped, of the grant that follows and the record.
 abbrev pub Finished : GrantReply → (lines : List ℕ) (at : ℕ) (lines₁ : List ℕ) → Report → Type 0
 Finished g lines at lines₁ t =
-    Put lines at (last_lines g.outcome g.rec) lines₁ t.count × ((t.more ≡ is_full g.outcome) × (t.rec ≡ g.rec) × (t.cycles ≡ 0))
+    Put lines at (last_lines g.outcome g.rec) lines₁ t.count × ((t.next ≡ followed_by (is_full g.outcome) 0) × (t.rec ≡ g.rec))
 
 module _ (g : GrantReply) {lines : List ℕ} {at : ℕ} where
   pub refused-line : {lines₁ : List ℕ} {r : ℕ} (k : ℕ) → g.outcome ≡ outcome.Refused k → Put lines at (refusal_line k 0) lines₁ r →
-      Finished g lines at lines₁ (record { count = r; more = false; rec = g.rec; cycles = 0 })
-  refused-line k e p = (rw e p, (rw e, refl, refl))
+      Finished g lines at lines₁ (record { count = r; rec = g.rec; next = None })
+  refused-line k e p = (rw e p, (rw e, refl))
 
   pub full-line : (x : Ending) → g.outcome ≡ outcome.Stopped x → x ≡ OutputFull → at ≤ length lines →
-      Finished g lines at lines (record { count = at; more = true; rec = g.rec; cycles = 0 })
+      Finished g lines at lines (record { count = at; rec = g.rec; next = Some 0 })
   full-line x e f l =
       let q = e ∙ ap outcome.Stopped f in
-      (rw q (record { room = omega arith; end = omega arith; bytes = refl }), (rw q, refl, refl))
+      (rw q (record { room = omega arith; end = omega arith; bytes = refl }), (rw q, refl))
 
   pub ended-line : {lines₁ : List ℕ} {r : ℕ} (x : Ending) → g.outcome ≡ outcome.Stopped x → OneOf (0 ∷ 1 ∷ 2 ∷ []) (tag_of the_type x) →
       Put lines at (ending_line x g.rec.ircr g.rec.iar g.rec.spent) lines₁ r →
-      Finished g lines at lines₁ (record { count = r; more = false; rec = g.rec; cycles = 0 })
-  ended-line Failed e n p = (rw e p, (rw e, refl, refl))
-  ended-line Ended e n p = (rw e p, (rw e, refl, refl))
-  ended-line Paused e n p = (rw e p, (rw e, refl, refl))
+      Finished g lines at lines₁ (record { count = r; rec = g.rec; next = None })
+  ended-line Failed e n p = (rw e p, (rw e, refl))
+  ended-line Ended e n p = (rw e p, (rw e, refl))
+  ended-line Paused e n p = (rw e p, (rw e, refl))
   ended-line OutputFull e n p = absurd (⊎_elim (λ k. omega arith) (λ m. ⊎_elim (λ k. omega arith) (λ k. omega arith) m) n)
 
 -- A GRANT
@@ -139,22 +138,21 @@ pub reported : (e : Environment) (h : Held) (c : Call) (lines₀ : List ℕ) {x 
     GrantIs e h c x →
     Put lines₀ 0 (value_lines (take x.reply.values x.slice)) lines at →
     Put lines at (last_lines x.reply.outcome x.reply.rec) lines₁ t.count →
-    (t.more ≡ is_full x.reply.outcome) × (t.rec ≡ x.reply.rec) × (t.cycles ≡ 0) →
+    (t.next ≡ followed_by (is_full x.reply.outcome) 0) × (t.rec ≡ x.reply.rec) →
     length c.slice ≡ slice_values →
     length x.slice ≡ length c.slice →
     ReportIs e h c lines₀ t x.memory x.slice lines₁
-reported e h c lines₀ {x} {t = t} is first last more room size =
+reported e h c lines₀ {x} {t = t} is first last behind room size =
     let y = granted e h c in
     let same : value_lines (take x.reply.values x.slice) ++ last_lines x.reply.outcome x.reply.rec ≡ reply_lines y = rw is.given in
-    let full : t.more ≡ is_full y.reply.outcome = rw is.given at more.0 in
-    let rec : t.rec ≡ y.reply.rec = rw is.given at more.1 in
+    let next : t.next ≡ followed_by (is_full y.reply.outcome) 0 = rw is.given at behind.0 in
+    let rec : t.rec ≡ y.reply.rec = rw is.given at behind.1 in
     record {
       shows = shown _ same (put_then first last);
-      more = full;
+      next = next;
       rec = rec;
-      cycles = more.2;
       memory = ap (λ (g : Granted). g.memory) is.given;
       values = ap (λ (g : Granted). g.slice) is.given;
       size = size;
-      progress = λ m. rw rec (full-progress e h c (omega (arith, room)) (sym full ∙ m));
+      progress = λ m. rw rec (full-progress e h c (omega (arith, room)) m);
     }

@@ -1,6 +1,6 @@
 -- What the calls of a run write, one behind the other, is what document 01 says that `takrun` prints. Assumes nothing.
 use Prim.Native.Nat.{ℕ, zero, suc, ◌+◌, ◌*◌, ◌-◌, ◌<◌}
-use mathlib.Core.Bool.{true, false, false≢true}
+use mathlib.Core.Bool.{Bool, true, false, false≢true}
 use mathlib.Core.List.{List, [], ◌∷◌, ◌++◌, append-nil}
 use mathlib.Core.Path.{◌≡◌, refl, sym, ap, ◌∙◌}
 use native.Mathlib.Omega.{arith}
@@ -27,8 +27,9 @@ use Rattle.model.specs.Load as load
 use Rattle.model.specs.declared.Parameters.{Parameters}
 use Rattle.model.specs.declared.Record.{Record}
 use Rattle.model.specs.Calls.{StartReply}
+use Rattle.std.specs.Prelude.{Option, Some, None}
 use Rattle.session.specs.Runs.{Grants, last, next, Run, refused, granted as goes}
-use Rattle.session.specs.Sessions.{start_line, Shows, Sizes, OpenBy, OpenIs, ReportIs}
+use Rattle.session.specs.Sessions.{followed_by, start_line, Shows, Sizes, OpenBy, OpenIs, ReportIs}
 use Rattle.session.specs.declared.Report.{Report}
 
 -- The bytes that a call puts in front of the buffer.
@@ -89,33 +90,42 @@ unfolding granted
 own_report is =
     record {
       shows = is.shows;
-      more = is.more;
+      next = is.next;
       rec = is.rec;
-      cycles = is.cycles;
       memory = is.memory;
       values = is.values;
       size = is.size;
       progress = is.progress;
     }
 
+-- Whether a grant follows, and with which cycles.
+follows-none : {b : Bool} {n : ℕ} → followed_by b n ≡ None → b ≡ false
+follows-none {true} h = cc
+follows-none {false} h = refl
+
+follows-some : {b : Bool} {n m : ℕ} → followed_by b n ≡ Some m → (b ≡ true) × (m ≡ n)
+follows-some {true} h = (refl, cc)
+follows-some {false} h = cc
+
 -- From a record on whose cycles, with the next grant's, are more than spent by less than n.
 grants_print : (e : Environment) {h : Held} {c : Call} {lines out : List ℕ} → Grants e h c lines out → length c.slice ≡ slice_values →
     (n : ℕ) → h.rec.granted + c.cycles - h.rec.spent < n → out ≡ grant_lines e n c.cycles h
-grants_print e (last is more) size zero l = absurd (omega arith)
-grants_print e (next is more rest) size zero l = absurd (omega arith)
-grants_print e {h} {c} (last met more) size (suc n) l =
+grants_print e (last is none) size zero l = absurd (omega arith)
+grants_print e (next is some rest) size zero l = absurd (omega arith)
+grants_print e {h} {c} (last met none) size (suc n) l =
     let is = own_report {e = e} met in
     let a = alike e h c.cycles c.slice (replicate slice_values (pos 0)) (size ∙ sym (length-replicate slice_values (pos 0))) in
-    let full = ap is_full (ap (λ (x : GrantReply). x.outcome) (sym a.reply)) ∙ sym is.more ∙ more in
+    let full = ap is_full (ap (λ (x : GrantReply). x.outcome) (sym a.reply)) ∙ follows-none (sym is.next ∙ none) in
     shows-text is.shows ∙ a.lines ∙ sym (append-nil _) ∙ sym (lines-last e n c.cycles h full)
-grants_print e {h} {c} (next met more rest) size (suc n) l =
+grants_print e {h} {c} (next met some rest) size (suc n) l =
     let is = own_report {e = e} met in
     let a = alike e h c.cycles c.slice (replicate slice_values (pos 0)) (size ∙ sym (length-replicate slice_values (pos 0))) in
-    let full = ap is_full (ap (λ (x : GrantReply). x.outcome) (sym a.reply)) ∙ sym is.more ∙ more in
-    let on = is.progress more in
-    let later = grants_print e rest (is.size ∙ size) n (omega (arith, l, on.spends, on.within, on.granted, is.cycles)) in
+    let full = ap is_full (ap (λ (x : GrantReply). x.outcome) (sym a.reply)) ∙ (follows-some (sym is.next ∙ some)).0 in
+    let zero-cycles = (follows-some (sym is.next ∙ some)).1 in
+    let on = is.progress (follows-some (sym is.next ∙ some)).0 in
+    let later = grants_print e rest (is.size ∙ size) n (omega (arith, l, on.spends, on.within, on.granted, zero-cycles)) in
     let same = is.rec ∙ ap (λ (x : GrantReply). x.rec) a.reply in
-    let tail = rw (same, is.cycles, is.memory ∙ a.memory) at later in
+    let tail = rw (same, zero-cycles, is.memory ∙ a.memory) at later in
     rw (shows-text is.shows ∙ a.lines, tail) (sym (lines_next e n c.cycles h full))
 
 -- LOAD, THEN START
@@ -234,32 +244,32 @@ module _ (par text input : List ℕ) where
       abbrev loaded : LoadReply
       loaded = load_reply chosen text image
 
-      refused-prints : r.more ≡ false → take r.count lines₁ ≡ printed par text input
-      refused-prints more = go loaded refl is.image is.by
+      refused-prints : r.next ≡ None → take r.count lines₁ ≡ printed par text input
+      refused-prints none = go loaded refl is.image is.by
         where
           go : (l : LoadReply) → loaded ≡ l → image₁ ≡ image_after chosen text image l → By l → take r.count lines₁ ≡ printed par text input
           go (load.Refused k i) e q b = shows-text b.shows ∙ sym (printed-refused k i (sym (load-alike chosen text image sizes) ∙ e))
           go (load.Accepted n) e q b =
               let number = ap (λ (x : StartReply). x.refusal) (same-reply n e q).reply in
-              let stops = ap (λ (k : ℕ). eqb k 0) (sym number) ∙ sym b.more ∙ more in
+              let stops = ap (λ (k : ℕ). eqb k 0) (sym number) ∙ follows-none (sym b.next ∙ none) in
               shows-text b.shows
               ∙ ap start_line number
               ∙ sym (start-stops loaded_in begun stops)
               ∙ sym (printed-loaded n (sym (load-alike chosen text image sizes) ∙ e))
 
-      granted-prints : r.more ≡ true → {values : List ℤ} → length values ≡ slice_values → {out : List ℕ} →
-          Grants (environment_of chosen image₁ input) (record { rec = r.rec; memory = memory₁ }) (as_call r.cycles values) lines₁ out →
+      granted-prints : {cycles : ℕ} → r.next ≡ Some cycles → {values : List ℤ} → length values ≡ slice_values → {out : List ℕ} →
+          Grants (environment_of chosen image₁ input) (record { rec = r.rec; memory = memory₁ }) (as_call cycles values) lines₁ out →
           take r.count lines₁ ++ out ≡ printed par text input
-      granted-prints more size {out} chain = go loaded refl is.image is.by
+      granted-prints some size {out} chain = go loaded refl is.image is.by
         where
           go : (l : LoadReply) → loaded ≡ l → image₁ ≡ image_after chosen text image l → By l → take r.count lines₁ ++ out ≡ printed par text input
-          go (load.Refused k i) e q b = absurd (false≢true (sym b.more ∙ more))
+          go (load.Refused k i) e q b = let z : ◌≡◌ {A = Option ℕ} None (Some _) = sym b.next ∙ some in cc
           go (load.Accepted n) e q b =
               let lent = environment_of chosen image₁ [] in
               let same = same-reply n e q in
-              let none = eqb-true (started lent memory).reply.refusal 0 (sym b.more ∙ more) in
+              let none = eqb-true (started lent memory).reply.refusal 0 (follows-some (sym b.next ∙ some)).0 in
               let number = ap (λ (x : StartReply). x.refusal) (sym same.reply) ∙ none in
-              let first = b.cycles more in
+              let first = (follows-some (sym b.next ∙ some)).1 in
               let fresh = b.rec ∙ start-fresh lent memory none in
               let spent = ap (λ (x : Record). x.spent) fresh in
               let given = ap (λ (x : Record). x.granted) fresh in
@@ -274,5 +284,5 @@ module _ (par text input : List ℕ) where
     -- Every run, whatever the buffers held before, writes exactly what document 01 says.
     pub run-prints : {values : List ℤ} → length values ≡ slice_values → {lines out : List ℕ} → Run chosen text input image memory values lines out →
         out ≡ printed par text input
-    run-prints size (refused is more) = refused-prints is more
-    run-prints size (goes is more chain) = granted-prints is more size chain
+    run-prints size (refused is none) = refused-prints is none
+    run-prints size (goes is some chain) = granted-prints is some size chain

@@ -1,5 +1,5 @@
 -- Document 01, "Marked runs": what `takrun` does with the contents of its files, call by call. A buffer is marked ₀ before the call, ₁ after it.
-use Rattle.std.specs.Prelude.{ℕ, zero, suc, ◌+◌, ◌*◌, ◌≤◌, ◌<◌, true, false, cond, List, [], ◌++◌, ◌≡◌, eqb, leb, ℤ, length, drop}
+use Rattle.std.specs.Prelude.{ℕ, zero, suc, ◌+◌, ◌*◌, ◌≤◌, ◌<◌, Bool, true, false, cond, Option, Some, None, List, [], ◌++◌, ◌≡◌, eqb, leb, ℤ, length, drop}
 use Rattle.model.specs.Calls.{Held, Started, started, Granted, granted}
 use Rattle.model.specs.Grants.{Call}
 use Rattle.model.specs.Step.{Environment, environment_of, Memory}
@@ -12,6 +12,11 @@ use Rattle.model.specs.declared.Parameters.{Parameters}
 use Rattle.model.specs.declared.Record.{Record}
 use Rattle.model.specs.Parameters.{max_registers, max_cells, max_instructions}
 use Rattle.session.specs.declared.Report.{Report}
+
+-- The cycles of the grant that follows, if one does.
+abbrev pub followed_by : (follows : Bool) (cycles : ℕ) → Option ℕ
+followed_by true n = Some n
+followed_by false n = None
 
 -- START. "A refused call prints .. number, line index (0 but from load), and is the last."
 abbrev pub start_line : (refusal : ℕ) → List ℕ
@@ -29,10 +34,9 @@ module _ (e : Environment) (memory₀ : Memory) (lines₀ : List ℕ) where
 
   pub record BeginIs (r : Report) (memory₁ : Memory) (lines₁ : List ℕ) : Type 0 where
     pub shows : Shows (start_line begun.reply.refusal) lines₀ r.count lines₁
-    pub more : r.more ≡ eqb begun.reply.refusal 0
-    pub rec : r.rec ≡ begun.reply.rec
     -- "grants 10^9 once"
-    pub cycles : r.more ≡ true → r.cycles ≡ first_grant
+    pub next : r.next ≡ followed_by (eqb begun.reply.refusal 0) first_grant
+    pub rec : r.rec ≡ begun.reply.rec
     pub memory : memory₁ ≡ begun.memory
 
 -- LOAD, THEN START.
@@ -49,7 +53,7 @@ pub record Sizes (p : Parameters) (image : List ℕ) (memory : Memory) : Type 0 
 -- A refused load is the last call.
 pub record Unloaded (k i : ℕ) (memory₀ : Memory) (lines₀ : List ℕ) (r : Report) (memory₁ : Memory) (lines₁ : List ℕ) : Type 0 where
   pub shows : Shows (refusal_line k i) lines₀ r.count lines₁
-  pub more : r.more ≡ false
+  pub next : r.next ≡ None
   pub memory : memory₁ ≡ memory₀
 
 module _ (p : Parameters) (text image₀ : List ℕ) (memory₀ : Memory) (lines₀ : List ℕ) where
@@ -80,11 +84,10 @@ module _ (e : Environment) (h : Held) (c : Call) (lines₀ : List ℕ) where
 
   pub record ReportIs (r : Report) (memory₁ : Memory) (values₁ : List ℤ) (lines₁ : List ℕ) : Type 0 where
     pub shows : Shows (reply_lines grant_result) lines₀ r.count lines₁
-    pub more : r.more ≡ is_full grant_result.reply.outcome
-    pub rec : r.rec ≡ grant_result.reply.rec
     -- "then 0 after each full output"
-    pub cycles : r.cycles ≡ 0
+    pub next : r.next ≡ followed_by (is_full grant_result.reply.outcome) 0
+    pub rec : r.rec ≡ grant_result.reply.rec
     pub memory : memory₁ ≡ grant_result.memory
     pub values : values₁ ≡ grant_result.slice
     pub size : length values₁ ≡ length c.slice
-    pub progress : r.more ≡ true → Progress h.rec c.cycles r.rec
+    pub progress : is_full grant_result.reply.outcome ≡ true → Progress h.rec c.cycles r.rec

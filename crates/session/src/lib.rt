@@ -3,48 +3,47 @@
 
 pub mod printing;
 
-ghost use Rattle.std.specs.Prelude.{true, false, [], ◌≡◌, ◌+◌, ◌≤◌, length};
+ghost use Rattle.std.specs.Prelude.{None, Some, [], ◌≡◌, ◌+◌, ◌≤◌, length};
 ghost use Rattle.model.specs.Calls.{as_held, as_call};
 ghost use Rattle.model.specs.Step.{as_memory, environment_of};
-ghost use Rattle.model.specs.Program.{is_full, last_lines, slice_values};
+ghost use Rattle.model.specs.Grants.{Stopped};
+ghost use Rattle.model.specs.Program.{is_full, ending_lines, last_lines, slice_values};
+ghost use Rattle.model.specs.Replies.{grant_answer};
 ghost use Rattle.session.specs.Puts.{Put};
-ghost use Rattle.session.specs.Sessions.{Sizes, lines_bytes, BeginIs, OpenIs, ReportIs};
+ghost use Rattle.session.specs.Sessions.{Sizes, lines_bytes, followed_by, BeginIs, OpenIs, ReportIs};
 
 use crate::printing::{put_ending, put_refusal, put_values};
 use loader::load;
 use machine::{grant, start};
-use model::{Ending, GrantReply, LoadReply, Outcome, Parameters, Record};
+use model::{AcceptedGrant, Ending, LoadError, Parameters, Record, Refusal};
 
-// After a call: the bytes of its lines, and whether a grant follows, of which record and cycles.
+// After a call: the bytes of its lines, its record, and the cycles of the grant that follows, if one does.
 #[derive(Clone, Copy)]
 pub struct Report {
     pub count: usize,
-    pub more: bool,
     pub rec: Record,
-    pub cycles: u64,
+    pub next: Option<u64>,
 }
 
 // Lines behind which nothing follows.
 fn stop_after(count: usize, rec: Record) -> Report
-    ensures { result ≡ record { count = count; more = false; rec = rec; cycles = 0 } }
+    ensures { result ≡ record { count = count; rec = rec; next = None } }
 {
     Report {
         count,
-        more: false,
         rec,
-        cycles: 0,
+        next: None,
     }
 }
 
 // Lines behind which a grant follows.
 fn grant_after(count: usize, rec: Record, cycles: u64) -> Report
-    ensures { result ≡ record { count = count; more = true; rec = rec; cycles = cycles } }
+    ensures { result ≡ record { count = count; rec = rec; next = Some cycles } }
 {
     Report {
         count,
-        more: true,
         rec,
-        cycles,
+        next: Some(cycles),
     }
 }
 
@@ -64,12 +63,10 @@ fn begin(
         result (as_memory registers.new cells.new) lines.new }
     ensures within { result.count ≤ length lines.new }
 {
-    let started = start(p, image, registers, cells);
-    let rec = started.rec;
-    if started.refusal != 0 {
-        return stop_after(put_refusal(started.refusal, 0, lines, 0), rec);
+    match start(p, image, registers, cells) {
+        Ok(rec) => grant_after(0, rec, FIRST_GRANT),
+        Err(refusal) => stop_after(put_refusal(u32::from(refusal), 0, lines, 0), Record::default()),
     }
-    grant_after(0, rec, FIRST_GRANT)
 }
 
 // Load, then start.
@@ -87,34 +84,55 @@ pub fn open(
         result image.new (as_memory registers.new cells.new) lines.new }
     ensures within { result.count ≤ length lines.new }
 {
-    let loaded = load(p, text, image);
-    match loaded {
-        LoadReply::Refused(number, index) => {
-            stop_after(put_refusal(number, index, lines, 0), Record::fresh(p))
+    match load(p, text, image) {
+        Ok(_) => begin(p, image, registers, cells, lines),
+        Err(LoadError { refusal, line }) => {
+            stop_after(put_refusal(u32::from(refusal), line, lines, 0), Record::fresh(p))
         }
-        LoadReply::Accepted(_) => begin(p, image, registers, cells, lines),
     }
 }
 
-// Behind the values' lines the last line, unless the output was full. What follows a full output is a grant of 0.
-fn finish(reply: GrantReply, lines: &mut [u8], at: usize) -> Report
+// The count of the values that a grant wrote: none if it is refused.
+fn values_written(reply: Result<AcceptedGrant, Refusal>) -> usize
+    ensures { (given : Record) → result ≡ (grant_answer given reply).values }
+{
+    match reply {
+        Ok(accepted) => accepted.values,
+        Err(_) => 0,
+    }
+}
+
+// The last line, unless the output was full. What follows a full output is a grant of 0.
+fn finish_accepted(reply: AcceptedGrant, lines: &mut [u8], at: usize) -> Report
     requires { at + 80 ≤ length lines.old }
-    ensures put { Put lines.old at (last_lines reply.outcome reply.rec) lines.new result.count }
-    ensures more_value { (result.more ≡ is_full reply.outcome) × (result.rec ≡ reply.rec) × (result.cycles ≡ 0) }
+    ensures put { Put lines.old at (ending_lines reply.ending reply.rec) lines.new result.count }
+    ensures next_value { (result.next ≡ followed_by (is_full (Stopped reply.ending)) 0) × (result.rec ≡ reply.rec) }
 {
     let rec = reply.rec;
-    let outcome = reply.outcome;
-    match outcome {
-        Outcome::Refused(number) => stop_after(put_refusal(number, 0, lines, at), rec),
-        Outcome::Stopped(ending) => {
-            if let Ending::OutputFull = ending {
-                return grant_after(at, rec, 0);
-            }
-            stop_after(
-                put_ending(ending, rec.ircr, rec.iar, rec.spent, lines, at),
-                rec,
-            )
-        }
+    let ending = reply.ending;
+    if let Ending::OutputFull = ending {
+        return grant_after(at, rec, 0);
+    }
+    stop_after(
+        put_ending(ending, rec.ircr, rec.iar, rec.spent, lines, at),
+        rec,
+    )
+}
+
+// Behind the values' lines the last line of a grant to the record `given`.
+fn finish(
+    given: Record,
+    reply: Result<AcceptedGrant, Refusal>,
+    lines: &mut [u8],
+    at: usize,
+) -> Report
+    requires { at + 80 ≤ length lines.old }
+    ensures put { let g = grant_answer given reply in Put lines.old at (last_lines g.outcome g.rec) lines.new result.count }
+    ensures next_value { let g = grant_answer given reply in (result.next ≡ followed_by (is_full g.outcome) 0) × (result.rec ≡ g.rec) }
+{
+    match reply {
+        Ok(accepted) => finish_accepted(accepted, lines, at),
+        Err(refusal) => stop_after(put_refusal(u32::from(refusal), 0, lines, at), given),
     }
 }
 
@@ -136,7 +154,7 @@ pub fn run_grant(
     ensures within { result.count ≤ length lines.new }
 {
     let reply = grant(rec, cycles, image, input, registers, cells, values);
-    let count = reply.values;
+    let count = values_written(reply);
     let at = put_values(&values[..count], lines);
-    finish(reply, lines, at)
+    finish(rec, reply, lines, at)
 }

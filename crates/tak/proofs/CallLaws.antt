@@ -1,20 +1,25 @@
 -- What each exported function hands back is what the definition says, from what the functions below it promise. Assumes nothing.
 use Prim.Native.Nat.{ℕ}
 use mathlib.Core.List.{List}
-use mathlib.Core.Path.{◌≡◌, sym, ap, ◌∙◌}
+use mathlib.Core.Path.{◌≡◌, refl, sym, ap, ◌∙◌}
 use lib.IntN.{ℤ}
 use lib.ListN.{length}
 use borrow.Author.Tests.{eq-eqb, ne_eqb}
-use Rattle.model.specs.Calls.{Started, Granted, granted, outcome_number}
+use Rattle.model.proofs.Replies.{positive}
+use Rattle.model.specs.Calls.{zero_record, Started, Granted, granted, outcome_number}
 use Rattle.model.specs.Grants.{Call}
 use Rattle.model.specs.Load.{load_reply, image_after, LoadNumbers, load_numbers, numbers_of_load}
-use Rattle.model.specs.Step.{Environment, with_parameters}
+use Rattle.model.specs.Replies.{number_of, start_answer, grant_answer}
+use Rattle.model.specs.Step.{Environment, with_parameters, Memory}
+use Rattle.model.specs.declared.AcceptedGrant.{AcceptedGrant}
+use Rattle.model.specs.declared.Refusal.{Refusal}
+use Rattle.std.specs.Prelude.{Result as Answer, Ok, Err}
 use Rattle.model.specs.Load.{LoadReply}
 use Rattle.model.specs.declared.Parameters.{Parameters}
 use Rattle.model.specs.declared.Record.{Record}
 use Rattle.machine.specs.CallContracts.{StartIs, GrantIs}
-use Rattle.tak.specs.Calls.{tak_load, Slices, start_replied, tak_start, outcome_ending, grant_replied, tak_grant}
-use Rattle.tak.specs.Records.{record_after, record_from, record_length}
+use Rattle.tak.specs.Calls.{tak_load, Slices, start_replied, tak_start, ending_number, outcome_ending, grant_replied, tak_grant}
+use Rattle.tak.specs.Records.{fields_of, record_after, record_from, record_length}
 
 -- LOAD
 module _ (p : Parameters) (text image : List ℕ) where
@@ -26,6 +31,15 @@ module _ (p : Parameters) (text image : List ℕ) where
       let numbers : numbers_of_load p text image ≡ n = sym k ∙ q in
       let words = ap (image_after p text image) (sym e) ∙ sym m in
       λ i. record { number = (numbers i).refusal; lines = (numbers i).lines; line = (numbers i).line; image = words i }
+
+-- The record slice: an accepted call's record is put there, and a refusal leaves it.
+after-accepted : (rec : Record) (old : List ℤ) → fields_of rec ≡ record_after 0 rec old
+unfolding record_after
+after-accepted rec old = refl
+
+after-refused : (r : Refusal) (rec : Record) (old : List ℤ) → old ≡ record_after (number_of r) rec old
+unfolding record_after
+after-refused r rec old = rw (ne_eqb (number_of r) 0 (positive r))
 
 -- START
 module _ (e : Environment) (s : Slices) where
@@ -40,6 +54,15 @@ module _ (e : Environment) (s : Slices) where
   start-replied {x} h i q =
       rw (eq-eqb (length s.fields) record_length h) (ap (λ (y : Started). start_replied y s.fields) (sym i.given)
       ∙ (λ j. record { number = x.reply.refusal; slices = record { fields = sym q j; memory = x.memory } }))
+
+  module _ (sized : length s.fields ≡ record_length) {memory' : Memory} where
+    pub start-accepted : (rec : Record) {fields' : List ℤ} → StartIs e s.memory (record { reply = start_answer (Ok rec); memory = memory' }) →
+        fields' ≡ fields_of rec → tak_start e s ≡ record { number = 0; slices = record { fields = fields'; memory = memory' } }
+    start-accepted rec is q = start-replied sized is (q ∙ after-accepted rec s.fields)
+
+    pub start-refused : (r : Refusal) → StartIs e s.memory (record { reply = start_answer (Err r); memory = memory' }) →
+        tak_start e s ≡ record { number = number_of r; slices = record { fields = s.fields; memory = memory' } }
+    start-refused r is = start-replied sized is (after-refused r zero_record s.fields)
 
 -- GRANT
 module _ (e : Environment) (s : Slices) (c : Call) where
@@ -75,3 +98,35 @@ module _ (e : Environment) (s : Slices) (c : Call) where
         slices = record { fields = w i; memory = x.memory };
         output = x.slice;
       }))
+
+  module _ (sized : length s.fields ≡ record_length) {rec : Record} (read : rec ≡ record_from s.fields) {memory' : Memory} {slice' : List ℤ} where
+    abbrev Is : Answer AcceptedGrant Refusal → Type 0
+    Is r =
+        GrantIs (with_parameters rec.parameters e) (record { rec = rec; memory = s.memory }) c
+        (record { reply = grant_answer rec r; memory = memory'; slice = slice' })
+
+    pub grant-accepted : (g : AcceptedGrant) {ending : ℕ} {fields' : List ℤ} → Is (Ok g) → ending ≡ ending_number g.ending → fields' ≡ fields_of g.rec →
+        tak_grant e s c
+        ≡ record {
+          number = 0;
+          ending = ending;
+          values = g.values;
+          spent = g.cycles;
+          slices = record { fields = fields'; memory = memory' };
+          output = slice';
+        }
+    unfolding outcome_number
+    grant-accepted g is q k = grant-replied sized read is refl q (k ∙ after-accepted g.rec s.fields)
+
+    pub grant-refused : (r : Refusal) → Is (Err r) →
+        tak_grant e s c
+        ≡ record {
+          number = number_of r;
+          ending = 0;
+          values = 0;
+          spent = 0;
+          slices = record { fields = s.fields; memory = memory' };
+          output = slice';
+        }
+    unfolding outcome_number
+    grant-refused r is = grant-replied sized read is refl refl (after-refused r rec s.fields)

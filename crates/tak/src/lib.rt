@@ -5,16 +5,17 @@
 pub mod records;
 
 ghost use Rattle.std.specs.Prelude.{◌≡◌, []};
-ghost use Rattle.model.specs.Calls.{as_call, outcome_number};
+ghost use Rattle.model.specs.Calls.{as_call};
+ghost use Rattle.model.specs.Replies.{load_answer};
 ghost use Rattle.model.specs.Step.{environment_of};
 ghost use Rattle.model.specs.Load.{load_numbers};
-ghost use Rattle.tak.specs.Calls.{as_slices, parameters_of, ending_number, outcome_ending, tak_load, tak_start, tak_grant, tak_decimal};
+ghost use Rattle.tak.specs.Calls.{as_slices, parameters_of, ending_number, tak_load, tak_start, tak_grant, tak_decimal};
 ghost use Rattle.tak.specs.Records.{record_from};
 
-use crate::records::{RECORD_LENGTH, hand_back, record_from};
+use crate::records::{RECORD_LENGTH, put_record, record_from};
 use loader::load;
 use machine::{grant, start};
-use model::{Ending, LoadReply, Outcome, Parameters};
+use model::{Ending, LoadError, Parameters};
 use writer::decimal::write_decimal;
 
 // A record slice of another length, TAK_REFUSED_RECORD_LENGTH: the one number of a refusal that document 01 does not have.
@@ -37,30 +38,20 @@ struct GrantNumbers {
     spent: u64,
 }
 
-fn load_numbers(reply: LoadReply) -> LoadNumbers
-    ensures { load_numbers reply ≡ record { refusal = result.refusal; lines = result.lines; line = result.line } }
+fn load_numbers(answer: Result<usize, LoadError>) -> LoadNumbers
+    ensures { load_numbers (load_answer answer) ≡ record { refusal = result.refusal; lines = result.lines; line = result.line } }
 {
-    match reply {
-        LoadReply::Accepted(n) => LoadNumbers {
+    match answer {
+        Ok(n) => LoadNumbers {
             refusal: 0,
             lines: n as u64,
             line: 0,
         },
-        LoadReply::Refused(k, i) => LoadNumbers {
-            refusal: k,
+        Err(error) => LoadNumbers {
+            refusal: u32::from(error.refusal),
             lines: 0,
-            line: i as u64,
+            line: error.line as u64,
         },
-    }
-}
-
-// The refusal's number, 0 for an accepted grant.
-fn outcome_number(o: Outcome) -> u32
-    ensures { result ≡ outcome_number o }
-{
-    match o {
-        Outcome::Refused(k) => k,
-        Outcome::Stopped(_) => 0,
     }
 }
 
@@ -73,16 +64,6 @@ fn ending_number(e: Ending) -> u32
         Ending::Ended => 2,
         Ending::Paused => 3,
         Ending::OutputFull => 4,
-    }
-}
-
-// The ending's number, 0 for a refused grant.
-fn outcome_ending(o: Outcome) -> u32
-    ensures { result ≡ outcome_ending o }
-{
-    match o {
-        Outcome::Refused(_) => 0,
-        Outcome::Stopped(e) => ending_number(e),
     }
 }
 
@@ -128,9 +109,25 @@ pub fn tak_start(
         return REFUSED_RECORD_LENGTH;
     }
     let p = Parameters { k, n, s, b, t };
-    let reply = start(p, image, registers, cells);
-    hand_back(reply.refusal, reply.rec, fields);
-    reply.refusal
+    match start(p, image, registers, cells) {
+        Ok(rec) => {
+            put_record(rec, fields);
+            0
+        }
+        Err(refusal) => u32::from(refusal),
+    }
+}
+
+// A refused grant reports its number alone.
+fn refused_grant(refusal: u32) -> GrantNumbers
+    ensures { result ≡ record { refusal = refusal; ending = 0; values = 0; spent = 0 } }
+{
+    GrantNumbers {
+        refusal,
+        ending: 0,
+        values: 0,
+        spent: 0,
+    }
 }
 
 // Grants cycles to the machine of a record slice.
@@ -155,23 +152,20 @@ fn grant_to(
         } }
 {
     if fields.len() != RECORD_LENGTH {
-        return GrantNumbers {
-            refusal: REFUSED_RECORD_LENGTH,
-            ending: 0,
-            values: 0,
-            spent: 0,
-        };
+        return refused_grant(REFUSED_RECORD_LENGTH);
     }
     let rec = record_from(fields);
-    let reply = grant(rec, cycles, image, input, registers, cells, output);
-    let outcome = reply.outcome;
-    let refusal = outcome_number(outcome);
-    hand_back(refusal, reply.rec, fields);
-    GrantNumbers {
-        refusal,
-        ending: outcome_ending(outcome),
-        values: reply.values as u64,
-        spent: reply.cycles,
+    match grant(rec, cycles, image, input, registers, cells, output) {
+        Ok(accepted) => {
+            put_record(accepted.rec, fields);
+            GrantNumbers {
+                refusal: 0,
+                ending: ending_number(accepted.ending),
+                values: accepted.values as u64,
+                spent: accepted.cycles,
+            }
+        }
+        Err(refusal) => refused_grant(u32::from(refusal)),
     }
 }
 
@@ -210,7 +204,14 @@ pub fn tak_grant(
 pub fn tak_decimal(value: i32, bytes: &mut [u8], count: &mut u64) -> u32
     ensures { tak_decimal value bytes.old ≡ record { number = result; count = count.new; bytes = bytes.new } }
 {
-    let written = write_decimal(value, bytes);
-    *count = written.count as u64;
-    written.refusal
+    match write_decimal(value, bytes) {
+        Ok(written) => {
+            *count = written as u64;
+            0
+        }
+        Err(refusal) => {
+            *count = 0;
+            u32::from(refusal)
+        }
+    }
 }

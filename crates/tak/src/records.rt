@@ -1,6 +1,6 @@
 // A record as a lent slice of numbers.
 ghost use Rattle.std.specs.Prelude.{◌≡◌, length};
-ghost use Rattle.tak.specs.Records.{held, most32, most64, record_from, fields_of, record_after, Narrow, record_length};
+ghost use Rattle.tak.specs.Records.{held, most32, most64, record_from, fields_of, Narrow, record_length};
 
 use model::{Parameters, Record};
 
@@ -33,23 +33,14 @@ pub const RECORD_LENGTH: usize = 11;
 fn held_short(z: i64) -> u32
     ensures { result ≡ held most32 z }
 {
-    if z < 0 {
-        return 0xFFFF_FFFF;
-    }
-    if 0xFFFF_FFFF < z {
-        return 0xFFFF_FFFF;
-    }
-    z as u32
+    u32::try_from(z).unwrap_or(u32::MAX)
 }
 
 // The same for 64 bits.
 fn held_long(z: i64) -> u64
     ensures { result ≡ held most64 z }
 {
-    if z < 0 {
-        return 0xFFFF_FFFF_FFFF_FFFF;
-    }
-    z as u64
+    u64::try_from(z).unwrap_or(u64::MAX)
 }
 
 // The record that the numbers are.
@@ -75,7 +66,7 @@ pub fn record_from(fields: &[i64]) -> Record
 }
 
 // Writes the numbers of a record.
-fn put_record(rec: Record, fields: &mut [i64])
+pub fn put_record(rec: Record, fields: &mut [i64])
     requires { Narrow rec × (length fields.old ≡ record_length) }
     ensures { fields.new ≡ fields_of rec }
 {
@@ -91,14 +82,4 @@ fn put_record(rec: Record, fields: &mut [i64])
     fields[PLACE] = rec.place as i64;
     fields[GRANTED] = rec.granted as i64;
     fields[SPENT] = rec.spent as i64;
-}
-
-// Writes the record of an accepted call; a refusal leaves the numbers.
-pub fn hand_back(refusal: u32, rec: Record, fields: &mut [i64])
-    requires { (refusal ≡ 0 → Narrow rec) × (length fields.old ≡ record_length) }
-    ensures { fields.new ≡ record_after refusal rec fields.old }
-{
-    if refusal == 0 {
-        put_record(rec, fields);
-    }
 }

@@ -2,7 +2,7 @@
 use mathlib.Core.List.{[]}
 use Rattle.model.specs.Step.{environment_of}
 use Rattle.tak.specs.Calls.{as_slices, parameters_of}
-use Rattle.tak.proofs.CallLaws.{start-size, start-replied}
+use Rattle.tak.proofs.CallLaws.{start-size, start-accepted, start-refused}
 use Rattle.tak.proofs.Narrow.{start_narrow}
 use Rattle.tak.proofs.tak_start.Goals as goal
 
@@ -12,15 +12,21 @@ returns-then-fields-ne-RECORD_LENGTH c =
     start-size (environment_of (parameters_of a.k a.n a.s a.b a.t) a.image.now []) (as_slices a.fields.now a.registers.now a.cells.now)
     c.if-fields-ne-RECORD_LENGTH.true
 
-pub hand_back-requires : goal.hand_back-requires
-hand_back-requires c =
+pub put_record-requires : goal.put_record-requires
+put_record-requires c =
     let a = c.args in
     let e = environment_of (parameters_of a.k a.n a.s a.b a.t) a.image.now [] in
     let s = as_slices a.fields.now a.registers.now a.cells.now in
-    (λ h. start_narrow e s.memory c.start-reply.ensures, c.if-fields-ne-RECORD_LENGTH.false)
+    (start_narrow e s.memory c.in-Ok.ensures, c.if-fields-ne-RECORD_LENGTH.false)
 
-pub returns : goal.returns
-returns c =
+pub returns-in-Ok : goal.returns-in-Ok
+returns-in-Ok c =
     let a = c.args in
-    start-replied (environment_of (parameters_of a.k a.n a.s a.b a.t) a.image.now []) (as_slices a.fields.now a.registers.now a.cells.now)
-    c.if-fields-ne-RECORD_LENGTH.false c.start-reply.ensures c.hand_back.ensures
+    start-accepted (environment_of (parameters_of a.k a.n a.s a.b a.t) a.image.now []) (as_slices a.fields.now a.registers.now a.cells.now)
+    c.if-fields-ne-RECORD_LENGTH.false _ c.in-Ok.ensures c.put_record.ensures
+
+pub returns-in-Err : goal.returns-in-Err
+returns-in-Err c =
+    let a = c.args in
+    start-refused (environment_of (parameters_of a.k a.n a.s a.b a.t) a.image.now []) (as_slices a.fields.now a.registers.now a.cells.now)
+    c.if-fields-ne-RECORD_LENGTH.false _ c.in-Err.ensures
