@@ -17,7 +17,9 @@ use borrow.Rule.Slice.PartMut.{put_mid}
 use Rattle.model.proofs.Decimals.{digits-at-most, decimal-length}
 use Rattle.model.specs.Calls.{Spelled, spelled, ending_word}
 use Rattle.model.specs.Numbers.{decimal, longest_decimal}
-use Rattle.model.specs.Calls.{DecimalReply}
+use Rattle.model.proofs.Replies.{positive}
+use Rattle.model.specs.declared.Refusal.{Refusal}
+use Rattle.std.specs.Prelude.{Result, Ok, Err, IsOk, is_ok}
 use Rattle.model.specs.declared.Ending.{Ending}
 use Rattle.model.specs.declared.Ending.TheVariants.{Failed, Ended, Paused, OutputFull}
 use Rattle.writer.specs.Decimal.{written}
@@ -64,35 +66,49 @@ put_front {out} {r = r} {s = s} p =
     let e : r ≡ length s = omega (arith, p.end) in
     (e, p.bytes ∙ sets-front s out (omega (arith, p.room)) ∙ rw e)
 
--- ONE BYTE MORE of a list.
-pub put_next : (bytes out : List ℕ) (at i : ℕ) → i < length bytes →
-    sets out at (take (i + 1) bytes) ≡ set (sets out at (take i bytes)) (at + length (take i bytes)) (get_or bytes i 0)
-put_next bytes out at i h =
-    let e : i + 1 ≡ suc i = omega arith in
-    ap (λ (s : List ℕ). sets out at s) (ap (λ (k : ℕ). take k bytes) e ∙ take-suc bytes i 0 h)
-    ∙ sets_append (take i bytes) (get_or bytes i 0 ∷ []) out at
+-- A piece that was copied into the buffer.
+pub sets-part : (out s : List ℕ) (at : ℕ) → at + length s ≤ length out → put_mid at (at + length s - at) out s ≡ sets out at s
+sets-part out s at l =
+    let n : at + length s - at ≡ length s = omega arith in
+    let rest : drop (at + length s - at) (drop at out) ≡ drop (at + length s) out = rw (n, drop-drop) in
+    ap (λ (r : List ℕ). take at out ++ (s ++ r)) rest ∙ sym (append_assoc (take at out) s (drop (at + length s) out)) ∙ sym (sets-eq s out at l)
 
 -- THE DECIMAL WRITER, lent enough
-pub spelled-fits : {r : DecimalReply} {out : List ℕ} (z : ℤ) (old : List ℕ) → longest_decimal ≤ length old → written r out ≡ spelled z old →
-    (r.count ≡ length (decimal z)) × (out ≡ decimal z ++ drop r.count old)
+pub spelled-fits : (r : Result ℕ Refusal) {out : List ℕ} (z : ℤ) (old : List ℕ) → longest_decimal ≤ length old → written r out ≡ spelled z old →
+    (r ≡ Ok (length (decimal z))) × (out ≡ decimal z ++ drop (length (decimal z)) old)
 unfolding spelled
-spelled-fits z old h e =
+spelled-fits (Ok n) z old h e =
     let f = rw (le-ltb (length old) longest_decimal h) at e in
-    let n = ap (λ (x : Spelled). x.reply.count) f in
-    (n, ap (λ (x : Spelled). x.bytes) f ∙ rw n)
+    (ap (λ (x : Spelled). Ok x.reply.count) f, ap (λ (x : Spelled). x.bytes) f)
+spelled-fits (Err x) z old h e =
+    let f = rw (le-ltb (length old) longest_decimal h) at e in
+    absurd (positive x (ap (λ (y : Spelled). y.reply.refusal) f))
 
 -- The decimal of z is put into the rest of the buffer, with room for a byte behind it.
-abbrev pub DecimalPut : (z : ℤ) (out : List ℕ) (at : ℕ) (r : DecimalReply) (rest : List ℕ) → Type 0
-DecimalPut z out at r rest = (r.count ≤ longest_decimal) × Put out at (decimal z) (put_mid at (length out - at) out rest) (at + r.count)
+abbrev pub DecimalPut : (z : ℤ) (out : List ℕ) (at n : ℕ) (rest : List ℕ) → Type 0
+DecimalPut z out at n rest = (n ≤ longest_decimal) × Put out at (decimal z) (put_mid at (length out - at) out rest) (at + n)
 
-pub decimal_put : {z : ℤ} {r : DecimalReply} {rest : List ℕ} (out : List ℕ) (at : ℕ) → SFits w32 z → at + 12 ≤ length out →
-    written r rest ≡ spelled (to_z w32 (of_z w32 z)) (take (length out - at) (drop at out)) → DecimalPut z out at r rest
+abbrev count-of : Result ℕ Refusal → ℕ
+count-of (Ok n) = n
+count-of (Err x) = 0
+
+pub decimal_put : {z : ℤ} {r : Result ℕ Refusal} {rest : List ℕ} (out : List ℕ) (at : ℕ) → SFits w32 z → at + 12 ≤ length out →
+    written r rest ≡ spelled (to_z w32 (of_z w32 z)) (take (length out - at) (drop at out)) →
+    IsOk r × ((n : ℕ) → r ≡ Ok n → DecimalPut z out at n rest)
 decimal_put {z} {r} {rest} out at f h e =
     let l : longest_decimal ≤ length (take (length out - at) (drop at out)) = rw (part_to_end, length-drop) (omega arith) in
-    let d = spelled-fits z (take (length out - at) (drop at out)) l (rw (to_z-of_z f) at e) in
+    let d = spelled-fits r z (take (length out - at) (drop at out)) l (rw (to_z-of_z f) at e) in
     let k = decimal-length z f.sfits in
     let room : at + length (decimal z) ≤ length out = omega arith in
-    (omega (arith, d.0, k), record { room = room; end = ap (λ (n : ℕ). at + n) d.0; bytes = sets-rest out (decimal z) rest at r.count room d.0 d.1 })
+    (
+      ap is_ok d.0,
+      λ n q.
+          let m : n ≡ length (decimal z) = ap count-of (sym q ∙ d.0) in
+          (
+            omega (arith, m, k),
+            record { room = room; end = ap (λ (i : ℕ). at + i) m; bytes = sets-rest out (decimal z) rest at (length (decimal z)) room refl d.1 },
+          ),
+    )
 
 -- LENGTHS
 pub value-line-length : (z : ℤ) → mag z < 2 ^ 31 → length (value_line z) ≤ 12

@@ -99,13 +99,13 @@ own_report is =
     }
 
 -- Whether a grant follows, and with which cycles.
-follows-none : {b : Bool} {n : ℕ} → followed_by b n ≡ None → b ≡ false
-follows-none {true} h = cc
-follows-none {false} h = refl
+follows-none : (b : Bool) (n : ℕ) → followed_by b n ≡ None → b ≡ false
+follows-none true n h = cc
+follows-none false n h = refl
 
-follows-some : {b : Bool} {n m : ℕ} → followed_by b n ≡ Some m → (b ≡ true) × (m ≡ n)
-follows-some {true} h = (refl, cc)
-follows-some {false} h = cc
+follows-some : (b : Bool) (n m : ℕ) → followed_by b n ≡ Some m → (b ≡ true) × (m ≡ n)
+follows-some true n m h = (refl, cc)
+follows-some false n m h = cc
 
 -- From a record on whose cycles, with the next grant's, are more than spent by less than n.
 grants_print : (e : Environment) {h : Held} {c : Call} {lines out : List ℕ} → Grants e h c lines out → length c.slice ≡ slice_values →
@@ -115,14 +115,14 @@ grants_print e (next is some rest) size zero l = absurd (omega arith)
 grants_print e {h} {c} (last met none) size (suc n) l =
     let is = own_report {e = e} met in
     let a = alike e h c.cycles c.slice (replicate slice_values (pos 0)) (size ∙ sym (length-replicate slice_values (pos 0))) in
-    let full = ap is_full (ap (λ (x : GrantReply). x.outcome) (sym a.reply)) ∙ follows-none (sym is.next ∙ none) in
+    let full = ap is_full (ap (λ (x : GrantReply). x.outcome) (sym a.reply)) ∙ follows-none _ _ (sym is.next ∙ none) in
     shows-text is.shows ∙ a.lines ∙ sym (append-nil _) ∙ sym (lines-last e n c.cycles h full)
 grants_print e {h} {c} (next met some rest) size (suc n) l =
     let is = own_report {e = e} met in
     let a = alike e h c.cycles c.slice (replicate slice_values (pos 0)) (size ∙ sym (length-replicate slice_values (pos 0))) in
-    let full = ap is_full (ap (λ (x : GrantReply). x.outcome) (sym a.reply)) ∙ (follows-some (sym is.next ∙ some)).0 in
-    let zero-cycles = (follows-some (sym is.next ∙ some)).1 in
-    let on = is.progress (follows-some (sym is.next ∙ some)).0 in
+    let full = ap is_full (ap (λ (x : GrantReply). x.outcome) (sym a.reply)) ∙ (follows-some _ _ _ (sym is.next ∙ some)).0 in
+    let zero-cycles = (follows-some _ _ _ (sym is.next ∙ some)).1 in
+    let on = is.progress (follows-some _ _ _ (sym is.next ∙ some)).0 in
     let later = grants_print e rest (is.size ∙ size) n (omega (arith, l, on.spends, on.within, on.granted, zero-cycles)) in
     let same = is.rec ∙ ap (λ (x : GrantReply). x.rec) a.reply in
     let tail = rw (same, zero-cycles, is.memory ∙ a.memory) at later in
@@ -251,7 +251,7 @@ module _ (par text input : List ℕ) where
           go (load.Refused k i) e q b = shows-text b.shows ∙ sym (printed-refused k i (sym (load-alike chosen text image sizes) ∙ e))
           go (load.Accepted n) e q b =
               let number = ap (λ (x : StartReply). x.refusal) (same-reply n e q).reply in
-              let stops = ap (λ (k : ℕ). eqb k 0) (sym number) ∙ follows-none (sym b.next ∙ none) in
+              let stops = ap (λ (k : ℕ). eqb k 0) (sym number) ∙ follows-none _ _ (sym b.next ∙ none) in
               shows-text b.shows
               ∙ ap start_line number
               ∙ sym (start-stops loaded_in begun stops)
@@ -267,9 +267,9 @@ module _ (par text input : List ℕ) where
           go (load.Accepted n) e q b =
               let lent = environment_of chosen image₁ [] in
               let same = same-reply n e q in
-              let none = eqb-true (started lent memory).reply.refusal 0 (follows-some (sym b.next ∙ some)).0 in
+              let none = eqb-true (started lent memory).reply.refusal 0 (follows-some _ _ _ (sym b.next ∙ some)).0 in
               let number = ap (λ (x : StartReply). x.refusal) (sym same.reply) ∙ none in
-              let first = (follows-some (sym b.next ∙ some)).1 in
+              let first = (follows-some _ _ _ (sym b.next ∙ some)).1 in
               let fresh = b.rec ∙ start-fresh lent memory none in
               let spent = ap (λ (x : Record). x.spent) fresh in
               let given = ap (λ (x : Record). x.granted) fresh in

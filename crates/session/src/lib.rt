@@ -4,7 +4,7 @@
 pub mod printing;
 
 ghost use Rattle.std.specs.Prelude.{None, Some, [], ◌≡◌, ◌+◌, ◌≤◌, length};
-ghost use Rattle.model.specs.Calls.{as_held, as_call};
+ghost use Rattle.model.specs.Calls.{as_held, as_call, zero_record};
 ghost use Rattle.model.specs.Step.{as_memory, environment_of};
 ghost use Rattle.model.specs.Grants.{Stopped};
 ghost use Rattle.model.specs.Program.{is_full, ending_lines, last_lines, slice_values};
@@ -47,6 +47,13 @@ fn grant_after(count: usize, rec: Record, cycles: u64) -> Report
     }
 }
 
+// The record of zeros, of a refused start.
+fn zero_record() -> Record
+    ensures { result ≡ zero_record }
+{
+    Record::default()
+}
+
 // The cycles of the first grant; one behind a full output has 0.
 const FIRST_GRANT: u64 = 1_000_000_000;
 
@@ -65,7 +72,7 @@ fn begin(
 {
     match start(p, image, registers, cells) {
         Ok(rec) => grant_after(0, rec, FIRST_GRANT),
-        Err(refusal) => stop_after(put_refusal(u32::from(refusal), 0, lines, 0), Record::default()),
+        Err(refusal) => stop_after(put_refusal(u32::from(refusal), 0, lines, 0), zero_record()),
     }
 }
 

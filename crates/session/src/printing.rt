@@ -13,12 +13,9 @@ fn put_bytes(bytes: &[u8], out: &mut [u8], at: usize) -> usize
     requires { at + length bytes.now ≤ length out.old }
     ensures { Put out.old at bytes.now out.new result }
 {
-    let mut i = 0;
-    while i < bytes.len() {
-        out[at + i] = bytes[i];
-        i += 1;
-    }
-    at + bytes.len()
+    let end = at + bytes.len();
+    out[at..end].copy_from_slice(bytes);
+    end
 }
 
 // A space and a number.
@@ -36,8 +33,7 @@ fn put_value(value: i32, out: &mut [u8], at: usize) -> usize
     requires { at + 12 ≤ length out.old }
     ensures { Put out.old at (value_line value) out.new result }
 {
-    let reply = write_decimal(value, &mut out[at..]);
-    let end = at + reply.count;
+    let end = at + write_decimal(value, &mut out[at..]).unwrap();
     out[end] = b'\n';
     end + 1
 }
@@ -49,10 +45,8 @@ pub fn put_values(values: &[i32], out: &mut [u8]) -> usize
     ensures within { result ≤ length values.now * 12 }
 {
     let mut at = 0;
-    let mut i = 0;
-    while i < values.len() {
-        at = put_value(values[i], out, at);
-        i += 1;
+    for value in values {
+        at = put_value(*value, out, at);
     }
     at
 }

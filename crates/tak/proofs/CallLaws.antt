@@ -99,11 +99,11 @@ module _ (e : Environment) (s : Slices) (c : Call) where
         output = x.slice;
       }))
 
-  module _ (sized : length s.fields ≡ record_length) {rec : Record} (read : rec ≡ record_from s.fields) {memory' : Memory} {slice' : List ℤ} where
+  module _ (sized : length s.fields ≡ record_length) {rec : Record} (read : rec ≡ record_from s.fields) (after : Memory) (out : List ℤ) where
     abbrev Is : Answer AcceptedGrant Refusal → Type 0
     Is r =
         GrantIs (with_parameters rec.parameters e) (record { rec = rec; memory = s.memory }) c
-        (record { reply = grant_answer rec r; memory = memory'; slice = slice' })
+        (record { reply = grant_answer rec r; memory = after; slice = out })
 
     pub grant-accepted : (g : AcceptedGrant) {ending : ℕ} {fields' : List ℤ} → Is (Ok g) → ending ≡ ending_number g.ending → fields' ≡ fields_of g.rec →
         tak_grant e s c
@@ -112,8 +112,8 @@ module _ (e : Environment) (s : Slices) (c : Call) where
           ending = ending;
           values = g.values;
           spent = g.cycles;
-          slices = record { fields = fields'; memory = memory' };
-          output = slice';
+          slices = record { fields = fields'; memory = after };
+          output = out;
         }
     unfolding outcome_number
     grant-accepted g is q k = grant-replied sized read is refl q (k ∙ after-accepted g.rec s.fields)
@@ -125,8 +125,8 @@ module _ (e : Environment) (s : Slices) (c : Call) where
           ending = 0;
           values = 0;
           spent = 0;
-          slices = record { fields = s.fields; memory = memory' };
-          output = slice';
+          slices = record { fields = s.fields; memory = after };
+          output = out;
         }
     unfolding outcome_number
     grant-refused r is = grant-replied sized read is refl refl (after-refused r rec s.fields)

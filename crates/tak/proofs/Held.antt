@@ -1,44 +1,32 @@
 -- Numbers that a field holds, and those that it does not. Assumes nothing.
-use Prim.Native.Nat.{ℕ, ◌≤◌, ◌<◌, ◌^◌}
-use mathlib.Core.Path.{◌≡◌, refl}
-use mathlib.Core.Bool.{true, false}
+use Prim.Native.Nat.{ℕ, ◌+◌, ◌<◌, ◌^◌}
+use mathlib.Core.Path.{◌≡◌, refl, sym, ◌∙◌}
+use mathlib.Core.Bool.{Bool, true, false, cond}
 use native.Mathlib.Omega.{arith}
-use lib.Dec.{T}
+use lib.Dec.{leb}
 use lib.IntN.{ℤ, pos, negsuc, nat_abs}
-use lib.Signed.{mag, lt_z, non_neg}
-use borrow.Author.Tests.{ltb-true, ltb-false, le-leb, lt-leb}
+use lib.Signed.{mag}
+use borrow.Author.Tests.{leb-true, le-leb}
 use mir.Facts.{to_z-of_z}
 use mir.Syntax.{w64}
 use mir.Val.{to_z, of_z}
+use Rattle.std.specs.Prelude.{Result, Ok, Err}
+use Rattle.std.specs.Result.{OkIff, result_unwrap_or}
+use Rattle.std.specs.Int.{FitsUnsignedBits}
 use Rattle.tak.specs.Records.{held}
 
-pub held_negative : (most : ℕ) (z : ℤ) → lt_z z (pos 0) ≡ true → held most z ≡ most
+-- A conversion to so many bits, or else the greatest number of them.
+pub held-converted : {E : Type 0} (bits most : ℕ) (z : ℤ) (r : Result ℕ E) → most + 1 ≡ 2 ^ bits → OkIff r (FitsUnsignedBits bits z) (nat_abs z) →
+    result_unwrap_or r most ≡ held most z
 unfolding held
-held_negative most (pos n) h = absurd (omega (arith, ltb-true n 0 h))
-held_negative most (negsuc n) h = refl
-
-pub held_above : (most : ℕ) (z : ℤ) → lt_z (pos most) z ≡ true → held most z ≡ most
-unfolding held
-held_above most (pos n) h = rw (lt-leb n most (ltb-true most n h))
-held_above most (negsuc n) h = refl
-
--- A number that is not negative.
-pub record Plain (z : ℤ) : Type 0 where
-  pub positive : T (non_neg z)
-  pub size : nat_abs z ≡ mag z
-
-pub plain : (z : ℤ) → lt_z z (pos 0) ≡ false → Plain z
-plain (pos n) h = record { positive = tt; size = refl }
-plain (negsuc n) h = absurd (let z : ◌≡◌ {A = ℕ} 0 1 = cc in omega arith)
-
-pub not_above : (most : ℕ) (z : ℤ) → lt_z z (pos 0) ≡ false → lt_z (pos most) z ≡ false → nat_abs z ≤ most
-not_above most (pos n) l h = ltb-false most n h
-not_above most (negsuc n) l h = absurd (let z : ◌≡◌ {A = ℕ} 0 1 = cc in omega arith)
-
-pub held_plain : (most : ℕ) (z : ℤ) → lt_z z (pos 0) ≡ false → nat_abs z ≤ most → held most z ≡ nat_abs z
-unfolding held
-held_plain most (pos n) l h = rw (le-leb n most h)
-held_plain most (negsuc n) l h = absurd (let z : ◌≡◌ {A = ℕ} 0 1 = cc in omega arith)
+held-converted bits most (pos n) (Ok x) q h = h.1 ∙ sym (rw (le-leb n most (omega (arith, q, h.0))))
+held-converted bits most (pos n) (Err e) q h = go (leb n most) refl
+  where
+    go : (b : Bool) → leb n most ≡ b → most ≡ cond (leb n most) n most
+    go true l = absurd (h (omega (arith, q, leb-true n most l)))
+    go false l = rw l
+held-converted bits most (negsuc n) (Ok x) q h = absurd h.0
+held-converted bits most (negsuc n) (Err e) q h = refl
 
 -- What is held of an element that was read.
 pub held-read : (most : ℕ) {x : ℕ} (z : ℤ) → mag z < 2 ^ 63 → x ≡ held most (to_z w64 (of_z w64 z)) → x ≡ held most z

@@ -2,12 +2,17 @@
 use Prim.Native.Nat.{ℕ, zero, suc}
 use mathlib.Core.Path.{◌≡◌, refl, sym, ◌∙◌}
 use native.Mathlib.Omega.{arith}
+use mathlib.Core.List.{List}
+use lib.IntN.{ℤ}
 use Rattle.model.proofs.Fits.{grant-accepted}
 use Rattle.model.proofs.GrantKeeps.{grant-kept}
 use Rattle.model.specs.Calls.{Held, environment_for, start_checks, Started, started, account_of, Granted, granted, outcome_number}
 use Rattle.model.specs.Grants.{Call}
 use Rattle.model.specs.Parameters.{refusal_of}
+use Rattle.model.specs.Replies.{grant_answer}
 use Rattle.model.specs.Step.{Environment, Memory}
+use Rattle.model.specs.declared.AcceptedGrant.{AcceptedGrant}
+use Rattle.std.specs.Prelude.{Ok}
 use Rattle.machine.specs.CallContracts.{StartIs, GrantIs}
 use Rattle.tak.specs.Records.{Narrow}
 
@@ -38,3 +43,8 @@ grant_narrow e held c g h =
       granted = omega (arith, s.granted);
       spent = omega (arith, s.spent, s.granted);
     })
+
+pub accepted_narrow : (e : Environment) (held : Held) (c : Call) (g : AcceptedGrant) (after : Memory) (out : List ℤ) →
+    GrantIs e held c (record { reply = grant_answer held.rec (Ok g); memory = after; slice = out }) → Narrow g.rec
+unfolding outcome_number
+accepted_narrow e held c g after out is = grant_narrow e held c is refl

@@ -9,21 +9,22 @@ use Rattle.session.proofs.Lines.{written-fits, reported}
 use Rattle.session.proofs.run_grant.Goals as goal
 
 pub slice_bounds-put_values-end : goal.slice_bounds-put_values-end
-slice_bounds-put_values-end c = written-fits c.grant-reply.ensures
+slice_bounds-put_values-end c = rw (c.values_written-count.ensures c.args.rec) (written-fits c.grant-reply.ensures)
 
 pub slice_bounds-put_values-end-2 : goal.slice_bounds-put_values-end-2
-slice_bounds-put_values-end-2 c = sym (length-take-le _ _ (written-fits c.grant-reply.ensures))
+slice_bounds-put_values-end-2 c =
+    rw (c.values_written-count.ensures c.args.rec) (sym (length-take-le _ _ (written-fits c.grant-reply.ensures)))
 
 pub returns : goal.returns
 returns c =
-    let first = c.put_values-at.ensures.put in
-    let last = c.finish.ensures in
     let a = c.args in
+    let first = rw (c.values_written-count.ensures a.rec) at c.put_values-at.ensures.put in
+    let last = c.finish.ensures in
     let all = put_then first last.put in
     record {
       report_is =
           reported (environment_of a.rec.parameters a.image.now a.input.now) (as_held a.rec a.registers.now a.cells.now)
           (as_call a.cycles a.values.now) a.lines.now
-          c.grant-reply.ensures first last.put last.more_value c.requires.0 (omega arith);
+          c.grant-reply.ensures first last.put last.next_value c.requires.0 (omega arith);
       within = omega (arith, all.room, all.end, put-length all);
     }

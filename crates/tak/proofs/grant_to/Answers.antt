@@ -1,18 +1,18 @@
 -- `grant_to` meets its contract. Assumes nothing.
-use mathlib.Core.Path.{refl}
 use Rattle.model.specs.Calls.{as_call}
 use Rattle.model.specs.Step.{environment_of, with_parameters}
 use Rattle.tak.specs.Calls.{as_slices}
 use Rattle.tak.specs.Records.{record_from}
 use Rattle.tak.proofs.CallLaws.{grant-size, grant-accepted, grant-refused}
-use Rattle.tak.proofs.Narrow.{grant_narrow}
+use Rattle.tak.proofs.Narrow.{accepted_narrow}
 use Rattle.tak.proofs.grant_to.Goals as goal
 
 pub returns-then-fields-ne-RECORD_LENGTH : goal.returns-then-fields-ne-RECORD_LENGTH
 returns-then-fields-ne-RECORD_LENGTH c =
     let a = c.args in
-    grant-size (environment_of (record_from a.fields.now).parameters a.image.now a.input.now)
-    (as_slices a.fields.now a.registers.now a.cells.now) (as_call a.cycles a.output.now) c.if-fields-ne-RECORD_LENGTH.true
+    rw c.refused_grant.ensures
+    (grant-size (environment_of (record_from a.fields.now).parameters a.image.now a.input.now)
+    (as_slices a.fields.now a.registers.now a.cells.now) (as_call a.cycles a.output.now) c.if-fields-ne-RECORD_LENGTH.true)
 
 pub put_record-requires : goal.put_record-requires
 put_record-requires c =
@@ -21,7 +21,7 @@ put_record-requires c =
     let s = as_slices a.fields.now a.registers.now a.cells.now in
     let r = c.record_from-rec.result in
     (
-      grant_narrow (with_parameters r.parameters e) (record { rec = r; memory = s.memory }) (as_call a.cycles a.output.now) c.in-Ok.ensures refl,
+      accepted_narrow (with_parameters r.parameters e) (record { rec = r; memory = s.memory }) (as_call a.cycles a.output.now) _ _ _ c.in-Ok.ensures,
       c.if-fields-ne-RECORD_LENGTH.false,
     )
 
@@ -30,11 +30,12 @@ returns-in-Ok c =
     let a = c.args in
     grant-accepted (environment_of (record_from a.fields.now).parameters a.image.now a.input.now)
     (as_slices a.fields.now a.registers.now a.cells.now) (as_call a.cycles a.output.now) c.if-fields-ne-RECORD_LENGTH.false
-    c.record_from-rec.ensures _ c.in-Ok.ensures c.ending_number.ensures c.put_record.ensures
+    c.record_from-rec.ensures _ _ _ c.in-Ok.ensures c.ending_number.ensures c.put_record.ensures
 
 pub returns-in-Err : goal.returns-in-Err
 returns-in-Err c =
     let a = c.args in
-    grant-refused (environment_of (record_from a.fields.now).parameters a.image.now a.input.now)
+    rw (c.refused_grant-in-Err.ensures, c.from.ensures)
+    (grant-refused (environment_of (record_from a.fields.now).parameters a.image.now a.input.now)
     (as_slices a.fields.now a.registers.now a.cells.now) (as_call a.cycles a.output.now) c.if-fields-ne-RECORD_LENGTH.false
-    c.record_from-rec.ensures _ c.in-Err.ensures
+    c.record_from-rec.ensures _ _ _ c.in-Err.ensures)

@@ -1,12 +1,13 @@
 -- `load_numbers` meets its contract. Assumes nothing.
 use mathlib.Core.Path.{ap}
 use Rattle.model.specs.Load.{load_numbers}
+use Rattle.model.specs.Replies.{load_answer}
 use Rattle.tak.proofs.load_numbers.Goals as goal
 
-pub returns-in-Accepted : goal.returns-in-Accepted
+pub returns-in-Ok : goal.returns-in-Ok
 unfolding load_numbers
-returns-in-Accepted c = ap load_numbers c.in-Accepted.is
+returns-in-Ok c = ap (λ r. load_numbers (load_answer r)) c.in-Ok.is
 
-pub returns-in-Refused : goal.returns-in-Refused
+pub returns-in-Err : goal.returns-in-Err
 unfolding load_numbers
-returns-in-Refused c = ap load_numbers c.in-Refused.is
+returns-in-Err c = rw c.from.ensures (ap (λ r. load_numbers (load_answer r)) c.in-Err.is)

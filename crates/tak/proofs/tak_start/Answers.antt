@@ -28,5 +28,6 @@ returns-in-Ok c =
 pub returns-in-Err : goal.returns-in-Err
 returns-in-Err c =
     let a = c.args in
-    start-refused (environment_of (parameters_of a.k a.n a.s a.b a.t) a.image.now []) (as_slices a.fields.now a.registers.now a.cells.now)
-    c.if-fields-ne-RECORD_LENGTH.false _ c.in-Err.ensures
+    rw c.from.ensures
+    (start-refused (environment_of (parameters_of a.k a.n a.s a.b a.t) a.image.now []) (as_slices a.fields.now a.registers.now a.cells.now)
+    c.if-fields-ne-RECORD_LENGTH.false _ c.in-Err.ensures)

@@ -10,16 +10,16 @@ use Rattle.model.specs.Lines.{value_lines}
 use Rattle.session.proofs.Pieces.{value-line-length, lines_next, put_then}
 use Rattle.session.proofs.printing.put_values.Goals as goal
 
-pub loop-i-init : goal.loop-i-init
+pub loop-value-init : goal.loop-value-init
 unfolding value_lines
-loop-i-init c = (omega arith, omega arith, record { room = omega arith; end = refl; bytes = refl })
+loop-value-init c = (omega arith, omega arith, record { room = omega arith; end = refl; bytes = refl })
 
-pub loop-i-preserved : goal.loop-i-preserved
-loop-i-preserved c =
+pub loop-value-preserved : goal.loop-value-preserved
+loop-value-preserved c =
     let values = c.args.values.now in
-    let at = c.loop-i in
-    let inside = c.loop-i-test.true in
-    let fits : SFits w32 (get_or values at.i (pos 0)) = record { sfits = omega arith } in
+    let at = c.loop-value in
+    let inside = c.loop-value-test.true in
+    let fits : SFits w32 (get_or values at.value-index (pos 0)) = record { sfits = omega arith } in
     let line = rw (to_z-of_z fits) at c.put_value-at.ensures in
-    let short = value-line-length (get_or values at.i (pos 0)) fits.sfits in
-    (omega (arith, inside), omega (arith, at.invariant.1, line.end, short), rw (lines_next values at.i inside) (put_then at.invariant.2 line))
+    let short = value-line-length (get_or values at.value-index (pos 0)) fits.sfits in
+    (omega (arith, inside), omega (arith, at.invariant.1, line.end, short), rw (lines_next values at.value-index inside) (put_then at.invariant.2 line))

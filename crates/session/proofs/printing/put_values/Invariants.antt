@@ -1,12 +1,9 @@
-use Prim.Native.Nat.{◌*◌, ◌-◌, ◌≤◌}
+use Prim.Native.Nat.{◌*◌, ◌≤◌}
 use lib.ListN.{length, take}
 use Rattle.model.specs.Lines.{value_lines}
 use Rattle.session.specs.Puts.{Put}
 use Rattle.session.proofs.printing.put_values.Given as goal
 
-abbrev pub invariant-loop-i : goal.invariant-loop-i
-invariant-loop-i l =
-    (l.i ≤ length l.values) × (l.at ≤ l.i * 12) × Put l.initial.out 0 (value_lines (take l.i l.values)) l.out l.at
-
-abbrev pub decreases-loop-i : goal.decreases-loop-i
-decreases-loop-i l = length l.values - l.i
+abbrev pub invariant-loop-value : goal.invariant-loop-value
+invariant-loop-value l =
+    (l.value-index ≤ length l.values) × (l.at ≤ l.value-index * 12) × Put l.initial.out 0 (value_lines (take l.value-index l.values)) l.out l.at
