@@ -99,12 +99,10 @@ decimal_put {z} {r} {rest} out at f h e =
     let l : longest_decimal ≤ length (take (length out - at) (drop at out)) = rw (part_to_end, length-drop) (omega arith) in
     let d = spelled-fits r z (take (length out - at) (drop at out)) l (rw (to_z-of_z f) at e) in
     let k = decimal-length z f.sfits in
-    let room : at + length (decimal z) ≤ length out = omega arith in
-    (
+    let room : at + length (decimal z) ≤ length out = omega arith in (
       ap is_ok d.0,
       λ n q.
-          let m : n ≡ length (decimal z) = ap count-of (sym q ∙ d.0) in
-          (
+          let m : n ≡ length (decimal z) = ap count-of (sym q ∙ d.0) in (
             omega (arith, m, k),
             record { room = room; end = ap (λ (i : ℕ). at + i) m; bytes = sets-rest out (decimal z) rest at (length (decimal z)) room refl d.1 },
           ),

@@ -94,7 +94,10 @@ pub fn open(
     match load(p, text, image) {
         Ok(_) => begin(p, image, registers, cells, lines),
         Err(LoadError { refusal, line }) => {
-            stop_after(put_refusal(u32::from(refusal), line, lines, 0), Record::fresh(p))
+            stop_after(
+                put_refusal(u32::from(refusal), line, lines, 0),
+                Record::fresh(p),
+            )
         }
     }
 }

@@ -19,8 +19,7 @@ put_record-requires c =
     let a = c.args in
     let e = environment_of (record_from a.fields.now).parameters a.image.now a.input.now in
     let s = as_slices a.fields.now a.registers.now a.cells.now in
-    let r = c.record_from-rec.result in
-    (
+    let r = c.record_from-rec.result in (
       accepted_narrow (with_parameters r.parameters e) (record { rec = r; memory = s.memory }) (as_call a.cycles a.output.now) _ _ _ c.in-Ok.ensures,
       c.if-fields-ne-RECORD_LENGTH.false,
     )
