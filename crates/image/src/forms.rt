@@ -36,7 +36,8 @@ pub fn forms_of(table: &[u32], number: u32) -> u32
     table[i]
 }
 
-// A form is a sum of 1, 2, 4 and 8, for what it allows. A general register;
+// A form is a sum of 1, 2, 4 and 8, for what it allows. One function that is given the bit would be no plainer: each contract here names its argument.
+// A general register;
 #[tactic(auto, unfolding(model::specs::Load::allows))]
 pub fn allows_register(form: u32) -> bool
     ensures { (r : ℕ) → result ≡ allows form (register r) }

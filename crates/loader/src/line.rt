@@ -17,7 +17,7 @@ use image::forms::{NOP, forms_of};
 use model::Refusal;
 use text::words::next_word;
 
-// The count of words from a place on.
+// The count of words from a place on. A cursor, since where the next word starts is known only behind this one.
 fn count_words(l: &[u8], from: usize) -> usize
     requires { from ≤ length l.now }
     ensures { result ≡ length (words (drop from l.now)) }
@@ -58,7 +58,7 @@ fn fault_unless_miscounted(l: &[u8], from: usize, forms: u32, fault: Refusal) ->
     }
 }
 
-// The arguments of an instruction from a place on, each at its form. The words are counted as they are read.
+// The arguments of an instruction from a place on, each at its form. The words are counted as they are read, so that the loop goes over both.
 fn parse_arguments(
     l: &[u8],
     from: usize,

@@ -1,4 +1,4 @@
-// The lines that takrun prints, as bytes at a place of a lent buffer. Each function answers the place behind what it wrote.
+// The lines that takrun prints, as bytes at a place of a lent buffer, since there is no heap. Each function answers the place behind what it wrote.
 ghost use Rattle.std.specs.Prelude.{◌+◌, ◌*◌, ◌≤◌, length};
 ghost use Rattle.model.specs.Calls.{ending_word};
 ghost use Rattle.model.specs.Lines.{field, value_line, value_lines, ending_line, refusal_line};

@@ -21,7 +21,7 @@ use writer::decimal::write_decimal;
 // A record slice of another length, TAK_REFUSED_RECORD_LENGTH: the one number of a refusal that document 01 does not have.
 const REFUSED_RECORD_LENGTH: u32 = 100;
 
-// The numbers that load reports.
+// The numbers that load reports: C has no enums with values.
 #[derive(Clone, Copy)]
 struct LoadNumbers {
     refusal: u32,

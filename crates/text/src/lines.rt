@@ -49,7 +49,7 @@ pub fn next_line(t: &[u8], p: usize) -> Line
     }
 }
 
-// The count of lines.
+// The count of lines. A cursor, since where the next line starts is known only behind this one.
 pub fn count_lines(t: &[u8]) -> usize
     ensures { result ≡ length (lines t.now) }
 {
