@@ -48,7 +48,7 @@ fn write_cell(image: &mut [u32], at: usize, cell: Instruction)
 }
 
 // A pass over the lines of a text: the count of its lines, or what it is refused for. Only a pass that writes fills the cells of an empty image.
-// `write` is no closure: both passes share this code, since a copy of it for each would be as large again.
+// `write` is no closure: both passes share this code, which a closure would have made twice.
 fn parse_lines(
     text: &[u8],
     limits: Limits,
@@ -61,6 +61,7 @@ fn parse_lines(
     ensures image { Filled write limits.parameters text.now image.old image.new (load_answer result) }
 {
     let t = limits.parameters.t as usize;
+    // Not a `for`: a turn goes on where its line ends.
     let mut at = 0;
     let mut i = 0;
     while at < text.len() {

@@ -22,6 +22,7 @@ fn count_words(l: &[u8], from: usize) -> usize
     requires { from ≤ length l.now }
     ensures { result ≡ length (words (drop from l.now)) }
 {
+    // Not a `for`: a turn goes on where its word ends.
     let mut at = from;
     let mut count = 0;
     loop {
@@ -69,6 +70,7 @@ fn parse_arguments(
     requires { (from ≤ length l.now) × (forms ≡ packed (row_of number).forms) }
     ensures { checked_of cell_from result ≡ counted limits.parameters number [] (row_of number).forms (words (drop from l.now)) }
 {
+    // Not a `for` over the places: the loop ends with the forms, and a turn goes on where its word ends.
     let mut arguments = [0u32; 3];
     let mut at = from;
     let mut rest = forms;
@@ -81,7 +83,7 @@ fn parse_arguments(
             return Err(Refusal::ArgumentCount);
         }
         let form = rest % 16;
-        rest = rest / 16;
+        rest /= 16;
         match argument_word(&l[start..end], form, limits) {
             Ok(x) => arguments[i] = x,
             Err(fault) => return Err(fault_unless_miscounted(l, end, rest, fault)),

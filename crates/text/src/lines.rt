@@ -53,6 +53,7 @@ pub fn next_line(t: &[u8], p: usize) -> Line
 pub fn count_lines(t: &[u8]) -> usize
     ensures { result ≡ length (lines t.now) }
 {
+    // Not a `for`: a turn goes on where its line ends.
     let mut at = 0;
     let mut count = 0;
     while at < t.len() {
