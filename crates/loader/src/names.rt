@@ -146,8 +146,7 @@ pub fn find_name(w: &[u8], keys: &[u64], slots: &[u8]) -> Option<u32>
     ensures { Finds result (lookup w.now) }
 {
     if 7 < w.len() {
-        find_long(w)
-    } else {
-        find_key(keys, slots, word_key(w))
+        return find_long(w);
     }
+    find_key(keys, slots, word_key(w))
 }

@@ -78,7 +78,7 @@ fn positive(digits: Option<u64>, m: u32) -> Result<i32, NumberError>
     }
 }
 
-// The number of digits behind a minus.
+// The number of digits behind a minus. Not one function for both signs: -m is a number of the range, and m is none.
 fn negative(digits: Option<u64>, m: u32) -> Result<i32, NumberError>
     requires { m ≤ 2 ^ 29 }
     ensures { result ≡ negative_of m digits }

@@ -20,7 +20,7 @@ fn ends_word(b: u8) -> bool
     is_comment(b) || is_separator(b)
 }
 
-// The next word of the line, from p on; it starts where it ends if there is none.
+// The next word of the line, from p on; it starts where it ends if there is none. Not one function with `next_token`: what both share is `find_from`.
 pub fn next_word(l: &[u8], p: usize) -> Span
     requires { p ≤ length l.now }
     ensures { NextWord l.now p result.start result.end }

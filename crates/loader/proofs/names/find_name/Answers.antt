@@ -6,7 +6,7 @@ use Rattle.loader.specs.Keys.{key_table, place_from, Finds}
 use Rattle.loader.proofs.NameLaws.{short-word}
 use Rattle.loader.proofs.names.find_name.Goals as goal
 
-pub returns-else-w-gt7 : goal.returns-else-w-gt7
-returns-else-w-gt7 c =
+pub returns : goal.returns
+returns c =
     let by_key = ap (λ (k : ℕ). place_from 5 k key_table) c.word_key.ensures ∙ sym (short-word c.args.w.now (λ i. (c.type_inv.w i).fits) (omega arith)) in
     subst (Finds c.find_key.result) by_key c.find_key.ensures
