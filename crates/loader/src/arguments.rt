@@ -1,5 +1,5 @@
 // An argument of an instruction, as the word of its cell.
-ghost use Rattle.std.specs.Prelude.{◌≡◌, ◌<◌, ◌≤◌, ◌^◌, length, drop};
+ghost use Rattle.std.specs.Prelude.{◌≡◌, ◌<◌, ◌≤◌, ◌^◌, drop};
 ghost use Rattle.std.specs.Int.Signed.{mag};
 ghost use Rattle.model.specs.Parameters.{max_cells};
 ghost use Rattle.model.specs.Numbers.{mapped, natural, number};
@@ -43,15 +43,14 @@ fn indexed(kind: u32, count: u32, digits: Option<u64>) -> Result<u32, Refusal>
     }
 }
 
-// R with digits.
-fn register_word(w: &[u8], form: u32, limits: Limits) -> Result<u32, Refusal>
-    requires { 1 ≤ length w.now }
-    ensures { checked_of (λ x. x) result ≡ checked_argument limits.parameters form (mapped register (natural (drop 1 w.now))) }
+// R with digits, from behind the R.
+fn register_word(digits: &[u8], form: u32, limits: Limits) -> Result<u32, Refusal>
+    ensures { checked_of (λ x. x) result ≡ checked_argument limits.parameters form (mapped register (natural digits.now)) }
 {
     if !allows_register(form) {
         return Err(Refusal::ArgumentForm);
     }
-    indexed(REGISTER, limits.parameters.n, read_digits(&w[1..]))
+    indexed(REGISTER, limits.parameters.n, read_digits(digits))
 }
 
 // DM with digits, of which the D is known.
@@ -97,7 +96,7 @@ pub fn argument_word(w: &[u8], form: u32, limits: Limits) -> Result<u32, Refusal
         return Err(Refusal::ArgumentForm);
     }
     match upper(w[0]) {
-        b'R' => register_word(w, form, limits),
+        b'R' => register_word(&w[1..], form, limits),
         b'D' => direct_word(w, form, limits),
         _ => match special(w) {
             None => number_word(w, form, limits),

@@ -1,7 +1,9 @@
 -- `argument_word` meets its contract, by the first letter and the special registers' names. Assumes nothing.
-use Rattle.std.proofs.Common.{ℕ, ◌≡◌, sym, ap, ◌∙◌, arith, Some, subst, Option, ◌<◌, false, eqb}
+use Rattle.std.proofs.Common.{List, ℕ, ◌≡◌, sym, ap, ◌∙◌, arith, Some, subst, Option, ◌<◌, false, eqb}
 use borrow.Author.Tests.{eqb-true, eqb-false}
-use Rattle.model.specs.Words.{word_of, register_kind}
+use Rattle.std.proofs.lemmas.List.{take_rest}
+use Rattle.model.specs.Numbers.{mapped, natural}
+use Rattle.model.specs.Words.{word_of, register_kind, register}
 use Rattle.model.specs.Load.{special_of, checked_argument, fine}
 use Rattle.loader.specs.Keys.{Finds}
 use Rattle.loader.proofs.ArgumentLaws.{special-high, argument-none, argument_special, argument_register, argument_direct, argument-number, special-checked}
@@ -19,6 +21,7 @@ pub returns-in-82 : goal.returns-in-82
 returns-in-82 c =
     let a = c.args in
     c.register_word.ensures
+    ∙ ap (λ (s : List ℕ). checked_argument a.limits.parameters a.form (mapped register (natural s))) (take_rest a.w.now 1)
     ∙ sym (ap (checked_argument a.limits.parameters a.form) (argument_register a.w.now (some-byte _ (sym c.is_empty.ensures ∙ c.if-is_empty.false)) (sym c.upper.ensures ∙ c.in-82.is)))
 
 pub returns-in-68 : goal.returns-in-68

@@ -1,10 +1,7 @@
 -- `register_word` meets its contract. Assumes nothing.
-use Rattle.std.proofs.Common.{ℕ, List, sym, ap, ◌∙◌, arith}
-use lib.ListN.{drop}
-use Rattle.std.proofs.lemmas.List.{take_rest}
+use Rattle.std.proofs.Common.{sym, ap, ◌∙◌, arith}
 use Rattle.model.specs.Numbers.{natural}
 use Rattle.model.proofs.Fits.{limits}
-use Rattle.numbers.specs.Reading.{capped}
 use Rattle.loader.specs.Faults.{indexed_of}
 use Rattle.loader.proofs.ArgumentLaws.{register-checked}
 use Rattle.loader.proofs.arguments.register_word.Goals as goal
@@ -15,9 +12,7 @@ indexed-requires c = let l = limits c.args.limits.parameters c.args.limits.fit i
 pub returns : goal.returns
 returns c =
     let p = c.args.limits.parameters in
-    let w = c.args.w.now in
     let l = limits p c.args.limits.fit in
-    let digits = c.read_digits.ensures ∙ ap (λ (s : List ℕ). capped (natural s)) (take_rest w 1) in
     c.indexed.ensures
-    ∙ ap (indexed_of 1 p.n) digits
-    ∙ register-checked p c.args.form (λ v. sym (c.allows_register.ensures v) ∙ c.if-not-allows_register.false) (omega (arith, l.n-high)) (natural (drop 1 w))
+    ∙ ap (indexed_of 1 p.n) c.read_digits.ensures
+    ∙ register-checked p c.args.form (λ v. sym (c.allows_register.ensures v) ∙ c.if-not-allows_register.false) (omega (arith, l.n-high)) (natural c.args.digits.now)
