@@ -1,8 +1,7 @@
 // takrun: runs the program of the current folder. It reads `tak.par`, `tak.tcl` and `tak.in`; a file that is missing or cannot be read counts as empty.
 #![tactic(auto)]
 
-ghost use Rattle.std.specs.Prelude.{◌≡◌, ◌↔◌, ◌*◌, ◌≤◌, ◌<◌, length, pos, negsuc, IsTrue, IfOk, IfErr};
-ghost use Rattle.std.specs.Io.{WritesAtMost};
+ghost use Rattle.std.specs.Prelude.{◌≡◌, ◌↔◌, ◌*◌, ◌≤◌, ◌<◌, length, IfOk, IfErr, IsErr, Ok, Err};
 ghost use Rattle.std.specs.IoError.{error_kind};
 ghost use Rattle.model.specs.Program.{slice_values};
 ghost use Rattle.model.specs.Parameters.{max_registers, max_cells, max_instructions};
@@ -12,7 +11,7 @@ ghost use Rattle.session.specs.Sessions.{Sizes, size_of, lines_bytes, ReportIs};
 
 use model::{Parameters, Record};
 use session::{Report, open, run_grant};
-use settings::{Intake, Scan, Transfer, after_call, contents, settings_of, take_piece};
+use settings::{CallError, Failed, Intake, Scan, Transfer, after_call, contents, settings_of, take_piece};
 use std::io::{ErrorKind, Read, Write};
 use std::rt::Files;
 use std::{fs, io};
@@ -31,38 +30,27 @@ const MAX_LINES: usize = 12 * MAX_VALUES + 80;
 // One byte more than a text or an input may have. One buffer serves all three files, one after the other.
 const MAX_BYTES: usize = Record::MAX_TEXT + 1;
 
-// A signal interrupted the call, which moved nothing.
-fn interrupted(answer: &io::Result<usize>) -> bool
-    ensures { IfErr answer.now (λ e. IsTrue result ↔ (error_kind e ≡ ErrorKind.Interrupted)) }
+// What a call of read or write moved, or why it moved nothing.
+fn moved(answer: io::Result<usize>) -> Result<usize, CallError>
+    ensures ok { IfOk answer (λ n. result ≡ Ok n) }
+    ensures err { IfErr answer (λ e. IsErr result × (result ≡ Err CallError.Interrupted ↔ error_kind e ≡ ErrorKind.Interrupted)) }
 {
     match answer {
-        Ok(_) => false,
-        Err(e) => e.kind() == ErrorKind::Interrupted,
-    }
-}
-
-// What the call answers in C: the count of the bytes that it moved, or -1.
-fn moved(answer: &io::Result<usize>, bytes: &[u8]) -> isize
-    requires { WritesAtMost answer.now bytes.now }
-    ensures ok { IfOk answer.now (λ n. result ≡ pos n) }
-    ensures err { IfErr answer.now (λ _. result ≡ negsuc 0) }
-{
-    match answer {
-        Ok(n) => *n as isize,
-        Err(_) => -1,
+        Ok(n) => Ok(n),
+        Err(e) if e.kind() == ErrorKind::Interrupted => Err(CallError::Interrupted),
+        Err(_) => Err(CallError::Other),
     }
 }
 
 // The scan of `tak.par`, read piece by piece into the buffer.
-fn read_pieces<R: Read>(file: &mut R, bytes: &mut [u8]) -> Scan
+fn read_pieces<R: Read>(file: &mut R, bytes: &mut [u8]) -> Option<Scan>
     requires { 0 < length bytes.old }
 {
     let mut intake = Intake::untaken();
     while 0 < intake.calls {
-        let answer = file.read(bytes);
+        let answer = moved(file.read(bytes));
         let piece = Transfer::begun(bytes.len());
-        let got = moved(&answer, bytes);
-        let read = after_call(piece, got, interrupted(&answer), bytes.len());
+        let read = after_call(piece, answer, bytes.len());
         intake = take_piece(intake, read, bytes);
     }
     intake.scan
@@ -73,43 +61,43 @@ fn read_parameters<R: Files>(rt: &R, bytes: &mut [u8]) -> Parameters
 {
     match fs::open(rt, "tak.par") {
         Ok(mut file) => settings_of(read_pieces(&mut file, bytes)),
-        Err(_) => settings_of(Scan::unread()),
+        Err(_) => settings_of(Some(Scan::unread())),
     }
 }
 
 // Reads until the buffer is full or the file ends.
-fn read_all<R: Read>(file: &mut R, bytes: &mut [u8]) -> usize
-    ensures { result ≤ length bytes.old }
+fn read_all<R: Read>(file: &mut R, bytes: &mut [u8]) -> Result<Transfer, Failed>
+    ensures { IfOk result (λ t. t.count ≤ length bytes.old) }
 {
     let mut t = Transfer::begun(bytes.len());
     while 0 < t.calls {
         let from = t.count;
-        let answer = file.read(&mut bytes[from..]);
-        let got = moved(&answer, bytes);
-        t = after_call(t, got, interrupted(&answer), bytes.len());
+        let answer = moved(file.read(&mut bytes[from..]));
+        t = after_call(t, answer, bytes.len())?;
     }
-    contents(t)
+    Ok(t)
 }
 
 fn read_file<R: Files>(rt: &R, path: &str, bytes: &mut [u8]) -> usize
     ensures { result ≤ length bytes.old }
 {
     match fs::open(rt, path) {
-        Ok(mut file) => read_all(&mut file, bytes),
+        Ok(mut file) => contents(read_all(&mut file, bytes)),
         Err(_) => 0,
     }
 }
 
-// Writes all of the bytes, or says that it could not.
-fn print<W: Write>(out: &mut W, bytes: &[u8]) -> bool {
+// Writes all of the bytes, or says behind how many it could not.
+fn print<W: Write>(out: &mut W, bytes: &[u8]) -> Result<(), Failed> {
     let mut t = Transfer::begun(bytes.len());
     while 0 < t.calls {
-        let from = t.count;
-        let answer = out.write(&bytes[from..]);
-        let put = moved(&answer, bytes);
-        t = after_call(t, put, interrupted(&answer), bytes.len());
+        let answer = moved(out.write(&bytes[t.count..]));
+        t = after_call(t, answer, bytes.len())?;
     }
-    t.count == bytes.len()
+    if t.count < bytes.len() {
+        return Err(Failed { count: t.count });
+    }
+    Ok(())
 }
 
 // The grant that follows, and its lines.
@@ -151,17 +139,15 @@ fn run_grants<W: Write>(
     cells: &mut [i32],
     values: &mut [i32],
     lines: &mut [u8],
-)
+) -> Result<(), Failed>
     requires { (length values.old ≡ slice_values) × (lines_bytes ≤ length lines.old) }
 {
     let mut report = first;
     while report.more {
         report = next_grant(report, image, input, registers, cells, values, lines);
-        let count = report.count;
-        if !print(out, &lines[..count]) {
-            return;
-        }
+        print(out, &lines[..report.count])?;
     }
+    Ok(())
 }
 
 // The text, loaded and started.
@@ -193,7 +179,7 @@ fn run_input<R: Files, W: Write>(
     cells: &mut [i32],
     values: &mut [i32],
     lines: &mut [u8],
-)
+) -> Result<(), Failed>
     requires { (length values.old ≡ slice_values) × (lines_bytes ≤ length lines.old) }
 {
     let count = read_file(rt, "tak.in", bytes);
@@ -219,18 +205,18 @@ fn run<R: Files, W: Write>(
     cells: &mut [i32],
     values: &mut [i32],
     lines: &mut [u8],
-)
+) -> Result<(), Failed>
     requires sizes { Sizes p image.old (as_memory registers.old cells.old) }
     requires values_len { (length values.old ≡ slice_values) × (lines_bytes ≤ length lines.old) }
 {
     let report = load_text(rt, p, bytes, image, registers, cells, lines);
-    let count = report.count;
-    let more = report.more;
-    if print(out, &lines[..count]) && more {
-        run_input(
-            rt, out, report, bytes, image, registers, cells, values, lines,
-        )
+    print(out, &lines[..report.count])?;
+    if !report.more {
+        return Ok(());
     }
+    run_input(
+        rt, out, report, bytes, image, registers, cells, values, lines,
+    )
 }
 
 // The length of a slice of that many; load refuses what is over the limit before it looks at a slice.
@@ -253,7 +239,7 @@ fn run_slices<R: Files, W: Write>(
     cells: &mut [i32],
     values: &mut [i32],
     lines: &mut [u8],
-)
+) -> Result<(), Failed>
     requires max_instructions_in_bounds { (4 * max_instructions ≤ length image.old) × (max_registers ≤ length registers.old) × (max_cells ≤ length cells.old) }
     requires values_len { (length values.old ≡ slice_values) × (lines_bytes ≤ length lines.old) }
 {
@@ -281,7 +267,8 @@ fn main(rt: HostRuntime) {
     let mut cells = [0i32; MAX_CELLS];
     let mut values = [0i32; MAX_VALUES];
     let mut lines = [0u8; MAX_LINES];
-    run_slices(
+    // A write that failed shows by the line that is missing.
+    let _ = run_slices(
         &rt,
         &mut rt.stdout(),
         p,
@@ -291,5 +278,5 @@ fn main(rt: HostRuntime) {
         &mut cells,
         &mut values,
         &mut lines,
-    )
+    );
 }
