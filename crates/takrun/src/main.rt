@@ -1,7 +1,7 @@
 // takrun: runs the program of the current folder. It reads `tak.par`, `tak.tcl` and `tak.in`; a file that is missing or cannot be read counts as empty.
 #![tactic(auto)]
 
-ghost use Rattle.std.specs.Prelude.{◌≡◌, ◌↔◌, ◌*◌, ◌≤◌, ◌<◌, length, IfOk, IfErr, IsErr, Ok, Err};
+ghost use Rattle.std.specs.Prelude.{◌≡◌, ◌↔◌, ◌*◌, ◌≤◌, ◌<◌, length, IfOk, IfErr, IsErr, Ok, Err, IfSome, MatchOption, Some, None};
 ghost use Rattle.std.specs.IoError.{error_kind};
 ghost use Rattle.model.specs.Program.{slice_values};
 ghost use Rattle.model.specs.Parameters.{max_registers, max_cells, max_instructions};
@@ -100,7 +100,7 @@ fn print<W: Write>(out: &mut W, bytes: &[u8]) -> Result<(), Failed> {
     Ok(())
 }
 
-// The grant that follows, and its lines.
+// The grant that follows, if one does, and its lines.
 fn next_grant(
     report: Report,
     image: &[u32],
@@ -109,24 +109,25 @@ fn next_grant(
     cells: &mut [i32],
     values: &mut [i32],
     lines: &mut [u8],
-) -> Report
+) -> Option<Report>
     requires { (length values.old ≡ slice_values) × (lines_bytes ≤ length lines.old) }
-    ensures report_is { ReportIs (environment_of report.rec.parameters image.now input.now)
-        (as_held report.rec registers.old cells.old) (as_call report.cycles values.old) lines.old
-        result (as_memory registers.new cells.new) values.new lines.new }
-    ensures within { result.count ≤ length lines.new }
+    ensures report_is { MatchOption result (report.next ≡ None) (λ r. (cycles : _) × (report.next ≡ Some cycles) × ReportIs (environment_of report.rec.parameters image.now input.now)
+        (as_held report.rec registers.old cells.old) (as_call cycles values.old) lines.old
+        r (as_memory registers.new cells.new) values.new lines.new) }
+    ensures within { IfSome result (λ r. r.count ≤ length lines.new) }
 {
+    let cycles = report.next?;
     let rec = report.rec;
-    run_grant(
+    Some(run_grant(
         rec,
-        report.cycles,
+        cycles,
         image,
         input,
         registers,
         cells,
         values,
         lines,
-    )
+    ))
 }
 
 // The length of a slice of that many; load refuses what is over the limit before it looks at a slice.
@@ -200,16 +201,16 @@ impl Program {
         let values = &mut self.values[..];
         let lines = &mut self.lines[..];
         let mut report = first;
-        while report.more {
-            report = next_grant(
-                report,
-                image,
-                input,
-                &mut registers[..n],
-                &mut cells[..s],
-                values,
-                lines,
-            );
+        while let Some(next) = next_grant(
+            report,
+            image,
+            input,
+            &mut registers[..n],
+            &mut cells[..s],
+            values,
+            lines,
+        ) {
+            report = next;
             print(out, &lines[..report.count])?;
         }
         Ok(())
@@ -218,7 +219,7 @@ impl Program {
     fn run<R: Files, W: Write>(&mut self, rt: &R, out: &mut W) -> Result<(), Failed> {
         let report = self.load(rt);
         print(out, &self.lines[..report.count])?;
-        if !report.more {
+        if report.next.is_none() {
             return Ok(());
         }
         self.run_grants(rt, out, report)

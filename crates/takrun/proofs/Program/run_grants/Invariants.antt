@@ -2,5 +2,5 @@
 use Rattle.takrun.proofs.Ends.{left}
 use Rattle.takrun.proofs.Program.run_grants.Given as goal
 
-abbrev pub decreases-loop-report : goal.decreases-loop-report
-decreases-loop-report g l = left l.report
+abbrev pub decreases-loop-next : goal.decreases-loop-next
+decreases-loop-next g l = left l.report
