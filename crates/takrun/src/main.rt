@@ -11,7 +11,9 @@ ghost use Rattle.session.specs.Sessions.{Sizes, size_of, lines_bytes, ReportIs};
 
 use model::{Parameters, Record};
 use session::{Report, open, run_grant};
-use settings::{CallError, Failed, Intake, Scan, Transfer, after_call, contents, settings_of, take_piece};
+use settings::{
+    CallError, Failed, Intake, Scan, Transfer, after_call, contents, settings_of, take_piece,
+};
 use std::io::{ErrorKind, Read, Write};
 use std::rt::Files;
 use std::{fs, io};
@@ -118,16 +120,7 @@ fn next_grant(
 {
     let cycles = report.next?;
     let rec = report.rec;
-    Some(run_grant(
-        rec,
-        cycles,
-        image,
-        input,
-        registers,
-        cells,
-        values,
-        lines,
-    ))
+    Some(run_grant(rec, cycles, image, input, registers, cells, values, lines))
 }
 
 // The length of a slice of that many; load refuses what is over the limit before it looks at a slice.
