@@ -101,25 +101,11 @@ module _ (w : List ℕ) (inside : 0 < length w) where
   argument-number r d h = not_special w h ∙ rw (drop-cons w 0 0) (simp (plain, ne_eqb _ _ r, ne_eqb _ _ d))
 
 -- "DM with digits", from behind the D
-pub after_none : (w : List ℕ) → length w < 2 → after_d (drop 1 w) ≡ none
-after_none [] h = refl
-after_none (b ∷ []) h = refl
-after_none (b ∷ c ∷ s) h = absurd (omega arith)
-
 module _ (w : List ℕ) (inside : 1 < length w) where
-  pub after_other : ¬ (upper (get_or w 1 0) ≡ 77) → after_d (drop 1 w) ≡ none
-  after_other h = rw (drop-cons w 1 0) (simp (after_d, ne_eqb _ _ h))
-
   pub after-m : upper (get_or w 1 0) ≡ 77 → after_d (drop 1 w) ≡ mapped direct (natural (drop 2 w))
   after-m h = rw (drop-cons w 1 0) (simp (after_d, h))
 
 -- THE WORD AT A PLACE
--- A form that is not allowed, whatever it says.
-pub barred : {A : Type 0} (p : Parameters) (form : ℕ) (make : A → Argument) → ((a : A) → allows form (make a) ≡ false) → (o : Option A) →
-    checked_argument p form (mapped make o) ≡ fault 13
-barred p form make h none = refl
-barred p form make h (some a) = simp (h a)
-
 -- A register or a cell: what is lost above the cap is no index below the count.
 module _ (p : Parameters) (form kind count : ℕ) (make : ℕ → Argument) (few : count ≤ max_cells) where
   index-checked : ((v : ℕ) → allows form (make v) ≡ true) → ((v : ℕ) → is_within p (make v) ≡ ltb v count) →
