@@ -59,6 +59,7 @@ fn output_value(value: i32, out: &mut [i32])
 }
 
 // A value to the register or data cell that a word names. For a word of another kind the difference, which wraps, is past every length.
+// Tried: `get_mut`. Of the slice behind what it lends only the length is known, so that the proof does not close.
 fn write(to: u32, value: i32, registers: &mut [i32], cells: &mut [i32])
     requires value_out_lt_to { value_out < to }
     requires indexed { Indexed registers.old cells.old }

@@ -12,6 +12,7 @@ pub const INSTRUCTIONS: u32 = 54;
 pub const NOP: u32 = 44;
 
 // By number, from 1 on: the form of the first argument, 16 times that of the second and 256 times that of the third. An absent one has 0.
+// One number a row, since each call has the table on its stack.
 const FORMS: [u32; INSTRUCTIONS as usize] = [
     0x000, 0x000, 0x000, 0x000, 0x005, 0x007, 0x057, 0x085, 0x007, 0x005, 0x001, 0x001, 0x013,
     0x133, 0x133, 0x133, 0x133, 0x133, 0x013, 0x013, 0x133, 0x133, 0x133, 0x133, 0x133, 0x081,

@@ -84,7 +84,7 @@ fn put_record(to: &mut Printer, rec: Record) {
     to.put(rec.spent);
 }
 
-// 1 failed, 2 ended, 3 paused, 4 output full.
+// 1 failed, 2 ended, 3 paused, 4 output full. No `From`, since neither type is this crate's.
 fn ending_number(e: Ending) -> u64 {
     match e {
         Ending::Failed => 1,
