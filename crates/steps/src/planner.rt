@@ -8,8 +8,7 @@ use arithmetic::{abs, add, div, modulo, mul, neg, sub};
 use bitwise::bits::{asr, rand, rnand, rnor, rnot, ror, rsl, rsr, rxor};
 use image::decode::Instruction;
 use logic::booleans::{
-    and, boolean, cmpeq, cmpge, cmpgt, cmple, cmplt, cmpneq, is_true, nand, nor, not, or,
-    xor,
+    and, boolean, cmpeq, cmpge, cmpgt, cmple, cmplt, cmpneq, is_true, nand, nor, not, or, xor,
 };
 use model::Parameters;
 use operands::{Core, read};
