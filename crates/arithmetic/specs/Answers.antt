@@ -6,15 +6,15 @@ use Rattle.arithmetic.specs.declared.ReturnCode.{ReturnCode}
 use Rattle.arithmetic.specs.declared.ReturnCode.TheVariants.{OutOfRange, DivisorZero, NotBoolean}
 
 -- The number of each return code: "code 1 when the exact result is outside", "Divisor 0 gives code 2", 1 where a value is no Boolean.
-abbrev pub number_of : ReturnCode → ℕ
-number_of OutOfRange = 1
-number_of DivisorZero = 2
-number_of NotBoolean = 1
+abbrev pub code_number_of : ReturnCode → ℕ
+code_number_of OutOfRange = 1
+code_number_of DivisorZero = 2
+code_number_of NotBoolean = 1
 
 -- What the code hands back, as the definitions answer it.
 abbrev pub answer_of : Result ℤ ReturnCode → Answer
 answer_of (Ok z) = value z
-answer_of (Err c) = code (number_of c)
+answer_of (Err c) = code (code_number_of c)
 
 -- What the code hands back for the exact result z: z in the range, or that it is outside.
 pub record IsChecked (m : ℕ) (z : ℤ) (r : Result ℤ ReturnCode) : Type 0 where

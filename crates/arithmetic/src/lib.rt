@@ -6,7 +6,7 @@ ghost use Rattle.std.specs.Prelude.{◌≡◌, ◌≢◌, ◌≤◌, Err, IfOk, 
 ghost use Rattle.std.specs.Int.Signed.{mag};
 ghost use Rattle.model.specs.Arithmetic.{divide, remainder};
 ghost use Rattle.bounds.specs.Bounds.{IsLimit, Within};
-ghost use Rattle.arithmetic.specs.Answers.{number_of, answer_of, IsChecked};
+ghost use Rattle.arithmetic.specs.Answers.{code_number_of, answer_of, IsChecked};
 
 use bounds::ranges::in_range_wide;
 
@@ -20,7 +20,7 @@ pub enum ReturnCode {
 
 // What IRCR says of it.
 impl From<ReturnCode> for u32 {
-    ghost from_gives = { λ c n. n ≡ number_of c };
+    ghost from_gives = { λ c n. n ≡ code_number_of c };
 
     fn from(code: ReturnCode) -> u32 {
         match code {

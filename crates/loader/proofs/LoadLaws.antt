@@ -10,7 +10,7 @@ use Rattle.model.specs.declared.Parameters.{Parameters}
 use Rattle.model.specs.Load.{LoadReply}
 use Rattle.model.specs.declared.Refusal.{Refusal}
 use Rattle.model.specs.declared.Refusal.TheVariants as refusal
-use Rattle.model.specs.Replies.{number_of}
+use Rattle.model.specs.Replies.{refusal_number_of}
 use Rattle.model.specs.Load.{Refused}
 use Rattle.model.specs.Parameters.{Check, ◌unless◌, refusal_of, parameter_checks, Fit, max_text}
 use Rattle.model.specs.Load.{length_check, text_reply, load_checks, load_reply, load_numbers, numbers_of_load}
@@ -19,7 +19,7 @@ use Rattle.model.proofs.LoadNumbers.{load-numbers}
 use Rattle.model.proofs.Refusals.{load-refused-first}
 
 -- A refusal has a number.
-pub has-number : (r : Refusal) → ¬ (number_of r ≡ 0)
+pub has-number : (r : Refusal) → ¬ (refusal_number_of r ≡ 0)
 has-number refusal.ParameterK e = absurd (omega arith)
 has-number refusal.ParameterN e = absurd (omega arith)
 has-number refusal.ParameterS e = absurd (omega arith)

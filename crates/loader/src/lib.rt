@@ -11,7 +11,7 @@ ghost use Rattle.std.specs.Prelude.{◌≡◌, cond, ◌∷◌, [], ◌+◌, ◌
 ghost use Rattle.std.proofs.lemmas.List.Edits.{sets};
 ghost use Rattle.model.specs.Load.{Refused, lines, text_reply, load_reply, image_after, load_numbers, numbers_of_load};
 ghost use Rattle.model.specs.Parameters.{Fit};
-ghost use Rattle.model.specs.Replies.{number_of, load_answer};
+ghost use Rattle.model.specs.Replies.{refusal_number_of, load_answer};
 ghost use Rattle.loader.specs.Passes.{Ready, Filled};
 
 use crate::limits::Limits;
@@ -25,7 +25,7 @@ use text::lines::{count_lines, next_line};
 // The fault of line i, behind which the text goes on at `next`; but more than t lines come first.
 fn line_error(text: &[u8], next: usize, i: usize, t: usize, fault: Refusal) -> LoadError
     requires { (next ≤ length text.now) × (i + 1 ≤ t) }
-    ensures { Refused (number_of result.refusal) result.line ≡ cond (leb (i + 1 + length (lines (drop next text.now))) t) (Refused (number_of fault) i) (Refused 8 0) }
+    ensures { Refused (refusal_number_of result.refusal) result.line ≡ cond (leb (i + 1 + length (lines (drop next text.now))) t) (Refused (refusal_number_of fault) i) (Refused 8 0) }
 {
     if count_lines(&text[next..]) <= t - i - 1 {
         return LoadError {

@@ -2,7 +2,7 @@
 ghost use Rattle.std.specs.Prelude.{◌≡◌, cond, [], ◌≤◌, eqb, length, drop};
 ghost use Rattle.model.specs.Instructions.{row_of};
 ghost use Rattle.model.specs.Load.{words, fault, line_of};
-ghost use Rattle.model.specs.Replies.{number_of};
+ghost use Rattle.model.specs.Replies.{refusal_number_of};
 ghost use Rattle.image.specs.Decode.{cell_from};
 ghost use Rattle.image.specs.Forms.{packed};
 ghost use Rattle.loader.specs.Faults.{checked_of};
@@ -50,7 +50,7 @@ fn form_count(forms: u32) -> usize
 // A faulty argument, unless the count of words is wrong, which comes first.
 fn fault_unless_miscounted(l: &[u8], from: usize, forms: u32, fault: Refusal) -> Refusal
     requires { from ≤ length l.now }
-    ensures { number_of result ≡ cond (eqb (length (words (drop from l.now))) (form_count forms)) (number_of fault) 12 }
+    ensures { refusal_number_of result ≡ cond (eqb (length (words (drop from l.now))) (form_count forms)) (refusal_number_of fault) 12 }
 {
     if count_words(l, from) == form_count(forms) {
         fault

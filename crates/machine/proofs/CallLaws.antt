@@ -16,7 +16,7 @@ use Rattle.model.proofs.Replies.{start-answered, grant-answered}
 use Rattle.model.specs.Calls.{Held, held_after, environment_for, fresh_record, start_checks, account_of, record_of, Granted, granted, granted_by, grant_refusal, outcome_number, outcome_word, stop_word}
 use Rattle.model.specs.Grants.{Call, Account, accept, hand_back}
 use Rattle.model.specs.Parameters.{refusal_of, limit}
-use Rattle.model.specs.Replies.{number_of, start_answer, as_started, grant_answer}
+use Rattle.model.specs.Replies.{refusal_number_of, start_answer, as_started, grant_answer}
 use Rattle.model.specs.Step.{Environment, Memory, State, Tak}
 use Rattle.model.specs.declared.AcceptedGrant.{AcceptedGrant}
 use Rattle.model.specs.declared.Refusal.{Refusal}
@@ -32,7 +32,7 @@ use Rattle.machine.specs.CallContracts.{StartIs, GrantIs}
 
 -- START
 module _ (e : Environment) (m : Memory) where
-  pub start-refuses : (r : Answer Record Refusal) (x : Refusal) → IsErr r × IsErrAnd r (λ y. y ≡ x) → number_of x ≡ refusal_of (start_checks e m) →
+  pub start-refuses : (r : Answer Record Refusal) (x : Refusal) → IsErr r × IsErrAnd r (λ y. y ≡ x) → refusal_number_of x ≡ refusal_of (start_checks e m) →
       StartIs e m (record { reply = start_answer r; memory = m })
   start-refuses r x h q = record { given = start-answered e m r x h q }
 
@@ -64,7 +64,7 @@ module _ (lent : Environment) (held : Held) (c : Call) where
         word = ap (λ (g : Granted). outcome_word g.reply.outcome) q ∙ grant-word lent held c ∙ ap word_given (sym q);
       }
 
-  pub grant-refuses : (r : Answer AcceptedGrant Refusal) (x : Refusal) → IsErr r × IsErrAnd r (λ y. y ≡ x) → number_of x ≡ grant_refusal e account c →
+  pub grant-refuses : (r : Answer AcceptedGrant Refusal) (x : Refusal) → IsErr r × IsErrAnd r (λ y. y ≡ x) → refusal_number_of x ≡ grant_refusal e account c →
       GrantIs lent held c (record { reply = grant_answer held.rec r; memory = held.memory; slice = c.slice })
   grant-refuses r x h q = promised (grant-answered lent held c r x h q)
 

@@ -3,7 +3,7 @@
 
 ghost use Rattle.std.specs.Prelude.{◌≡◌};
 ghost use Rattle.model.specs.Calls.{fresh_record};
-ghost use Rattle.model.specs.Replies.{number_of};
+ghost use Rattle.model.specs.Replies.{refusal_number_of};
 
 pub mod words;
 
@@ -62,7 +62,7 @@ pub enum Refusal {
 }
 
 impl From<Refusal> for u32 {
-    ghost from_gives = { λ r n. n ≡ number_of r };
+    ghost from_gives = { λ r n. n ≡ refusal_number_of r };
 
     fn from(refusal: Refusal) -> u32 {
         match refusal {

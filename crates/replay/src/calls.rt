@@ -10,7 +10,7 @@ use model::{AcceptedGrant, Ending, LoadError, Parameters, Record, Refusal};
 
 // What a call does.
 #[derive(Clone, Copy)]
-enum Kind {
+enum CallKind {
     Start,
     Grant,
     SetField,
@@ -21,25 +21,25 @@ enum Kind {
 }
 
 // One that is none of 0 to 6 counts as 5.
-impl From<u64> for Kind {
+impl From<u64> for CallKind {
     ghost from_gives = { λ _ _. ⊤ };
 
-    fn from(number: u64) -> Kind {
+    fn from(number: u64) -> CallKind {
         match number {
-            0 => Kind::Start,
-            1 => Kind::Grant,
-            2 => Kind::SetField,
-            3 => Kind::SetRegister,
-            4 => Kind::SetCell,
-            6 => Kind::PutImage,
-            _ => Kind::SetWord,
+            0 => CallKind::Start,
+            1 => CallKind::Grant,
+            2 => CallKind::SetField,
+            3 => CallKind::SetRegister,
+            4 => CallKind::SetCell,
+            6 => CallKind::PutImage,
+            _ => CallKind::SetWord,
         }
     }
 }
 
 #[derive(Clone, Copy)]
 struct Call {
-    kind: Kind,
+    kind: CallKind,
     index: u64,
     value: u64,
 }
@@ -48,7 +48,7 @@ struct Call {
 fn read_call(reader: &mut Reader) -> Call
     ensures { length reader.new.rest.now ≤ length reader.old.rest.now }
 {
-    let kind = Kind::from(reader.number());
+    let kind = CallKind::from(reader.number());
     let index = reader.number();
     let value = reader.number();
     Call { kind, index, value }
@@ -201,13 +201,13 @@ impl<'a> Machine<'a> {
     fn run_call(&mut self, to: &mut Printer, call: Call) {
         let Call { kind, index, value } = call;
         match kind {
-            Kind::Start => self.start(to),
-            Kind::Grant => self.grant(to, value, at_most(index, 64)),
-            Kind::SetField => self.set_field(index, value),
-            Kind::SetRegister => set(&mut self.registers, index, low(value).cast_signed()),
-            Kind::SetCell => set(&mut self.cells, index, low(value).cast_signed()),
-            Kind::SetWord => set(&mut self.image, index, low(value)),
-            Kind::PutImage => put_image(to, self.parameters, &self.image),
+            CallKind::Start => self.start(to),
+            CallKind::Grant => self.grant(to, value, at_most(index, 64)),
+            CallKind::SetField => self.set_field(index, value),
+            CallKind::SetRegister => set(&mut self.registers, index, low(value).cast_signed()),
+            CallKind::SetCell => set(&mut self.cells, index, low(value).cast_signed()),
+            CallKind::SetWord => set(&mut self.image, index, low(value)),
+            CallKind::PutImage => put_image(to, self.parameters, &self.image),
         }
     }
 

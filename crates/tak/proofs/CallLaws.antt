@@ -9,7 +9,7 @@ use Rattle.model.proofs.Replies.{positive}
 use Rattle.model.specs.Calls.{zero_record, Started, Granted, granted, outcome_number}
 use Rattle.model.specs.Grants.{Call}
 use Rattle.model.specs.Load.{load_reply, image_after, LoadNumbers, load_numbers, numbers_of_load}
-use Rattle.model.specs.Replies.{number_of, start_answer, grant_answer}
+use Rattle.model.specs.Replies.{refusal_number_of, start_answer, grant_answer}
 use Rattle.model.specs.Step.{Environment, with_parameters, Memory}
 use Rattle.model.specs.declared.AcceptedGrant.{AcceptedGrant}
 use Rattle.model.specs.declared.Refusal.{Refusal}
@@ -37,9 +37,9 @@ after-accepted : (rec : Record) (old : List ℤ) → fields_of rec ≡ record_af
 unfolding record_after
 after-accepted rec old = refl
 
-after-refused : (r : Refusal) (rec : Record) (old : List ℤ) → old ≡ record_after (number_of r) rec old
+after-refused : (r : Refusal) (rec : Record) (old : List ℤ) → old ≡ record_after (refusal_number_of r) rec old
 unfolding record_after
-after-refused r rec old = rw (ne_eqb (number_of r) 0 (positive r))
+after-refused r rec old = rw (ne_eqb (refusal_number_of r) 0 (positive r))
 
 -- START
 module _ (e : Environment) (s : Slices) where
@@ -61,7 +61,7 @@ module _ (e : Environment) (s : Slices) where
     start-accepted rec is q = start-replied sized is (q ∙ after-accepted rec s.fields)
 
     pub start-refused : (r : Refusal) → StartIs e s.memory (record { reply = start_answer (Err r); memory = memory' }) →
-        tak_start e s ≡ record { number = number_of r; slices = record { fields = s.fields; memory = memory' } }
+        tak_start e s ≡ record { number = refusal_number_of r; slices = record { fields = s.fields; memory = memory' } }
     start-refused r is = start-replied sized is (after-refused r zero_record s.fields)
 
 -- GRANT
@@ -121,7 +121,7 @@ module _ (e : Environment) (s : Slices) (c : Call) where
     pub grant-refused : (r : Refusal) → Is (Err r) →
         tak_grant e s c
         ≡ record {
-          number = number_of r;
+          number = refusal_number_of r;
           ending = 0;
           values = 0;
           spent = 0;
