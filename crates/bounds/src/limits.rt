@@ -1,6 +1,6 @@
 // The range limits of document 01, and the checks of the parameters.
 ghost use Rattle.std.specs.Prelude.{◌≡◌, ◌&&◌, ◌-◌, ◌≤◌, leb};
-ghost use Rattle.model.specs.Parameters.{limit, between, refusal_of, parameter_checks};
+ghost use Rattle.model.specs.Parameters.{limit, between, refusal_of, parameter_checks, Fit};
 ghost use Rattle.model.specs.Replies.{refusal_number};
 ghost use Rattle.bounds.specs.Bounds.{IsLimit};
 
@@ -57,4 +57,26 @@ pub fn check_parameters(p: Parameters) -> Result<(), Refusal>
         return Err(Refusal::ParameterT);
     }
     Ok(())
+}
+
+// Parameters that fit, and document 01's M for them.
+#[derive(Clone, Copy)]
+pub struct Limits {
+    pub parameters: Parameters,
+    pub m: u32,
+    ghost fit: { Fit parameters },
+    ghost m_value: { m ≡ limit parameters.k },
+}
+
+impl Limits {
+    // Those of the parameters.
+    pub fn new(parameters: Parameters) -> Self
+        requires { Fit parameters }
+        ensures { result.parameters ≡ parameters }
+    {
+        Limits {
+            parameters,
+            m: limit_of(parameters.k),
+        }
+    }
 }

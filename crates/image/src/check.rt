@@ -5,7 +5,7 @@ ghost use Rattle.model.specs.Images.{all_zero, image_fits};
 
 use crate::decode::{Decoded, decode};
 use crate::forms::form_table;
-use bounds::limits::limit_of;
+use bounds::limits::Limits;
 use model::Parameters;
 
 // All words are zeros.
@@ -21,10 +21,10 @@ pub fn image_fits(p: Parameters, image: &[u32]) -> bool
     requires image_len { length image.now ≡ 4 * p.t }
     ensures { result ≡ image_fits p image.now }
 {
-    let m = limit_of(p.k);
+    let limits = Limits::new(p);
     let forms = form_table();
     for (at, cell) in image.chunks_exact(4).enumerate() {
-        match decode(cell, p, m, &forms) {
+        match decode(cell, limits, &forms) {
             Decoded::Runs(_) => {}
             Decoded::Empty => return all_zero(&image[4 * at..]),
             Decoded::Invalid => return false,

@@ -1,6 +1,5 @@
 // A cell of an image taken apart, and whether a text can yield it.
 ghost use Rattle.std.specs.Prelude.{◌≡◌, ◌≤◌, length};
-ghost use Rattle.model.specs.Parameters.{limit, Fit};
 ghost use Rattle.model.specs.Words.{cell_of};
 ghost use Rattle.model.specs.Images.{register_fits, word_fits, cell_fits};
 ghost use Rattle.image.specs.Forms.{form_table};
@@ -11,6 +10,7 @@ use crate::forms::{
 };
 use crate::kinds::Kind;
 use crate::words::{content, kind, number};
+use bounds::limits::Limits;
 use bounds::ranges::in_range;
 use model::Parameters;
 use model::words::{IAR, SHR};
@@ -67,71 +67,61 @@ fn register_fits(p: Parameters, form: u32, index: u32) -> bool
 }
 
 // A word at a place of this form.
-fn word_fits(p: Parameters, m: u32, form: u32, w: u32) -> bool
-    requires fit { Fit p }
-    requires m_value { m ≡ limit p.k }
-    ensures { result ≡ word_fits p form w }
+fn word_fits(limits: Limits, form: u32, w: u32) -> bool
+    ensures { result ≡ word_fits limits.parameters form w }
 {
     match kind(w) {
         Kind::Head => false,
-        Kind::Register => register_fits(p, form, content(w)),
-        Kind::Direct => allows_direct(form) && content(w) < p.b,
-        Kind::Number => allows_number(form) && in_range(m, number(w)),
+        Kind::Register => register_fits(limits.parameters, form, content(w)),
+        Kind::Direct => allows_direct(form) && content(w) < limits.parameters.b,
+        Kind::Number => allows_number(form) && in_range(limits.m, number(w)),
     }
 }
 
 // The same, where a place with form 0 has no argument.
 #[tactic(auto, unfolding(crate::specs::Decode::argument_word_fits))]
-fn argument_word_fits(p: Parameters, m: u32, form: u32, w: u32) -> bool
-    requires fit { Fit p }
-    requires m_value { m ≡ limit p.k }
-    ensures { result ≡ argument_word_fits p form w }
+fn argument_word_fits(limits: Limits, form: u32, w: u32) -> bool
+    ensures { result ≡ argument_word_fits limits.parameters form w }
 {
     match form {
         0 => w == 0,
-        _ => word_fits(p, m, form, w),
+        _ => word_fits(limits, form, w),
     }
 }
 
 // The three words behind the head, at places of these forms.
 #[tactic(auto, unfolding(crate::specs::Decode::argument_words_fit))]
-fn arguments_fit(p: Parameters, m: u32, forms: u32, i: Instruction) -> bool
-    requires fit { Fit p }
-    requires m_value { m ≡ limit p.k }
-    ensures { result ≡ argument_words_fit p forms i.first i.second i.third }
+fn arguments_fit(limits: Limits, forms: u32, i: Instruction) -> bool
+    ensures { result ≡ argument_words_fit limits.parameters forms i.first i.second i.third }
 {
-    argument_word_fits(p, m, forms % 16, i.first)
-        && argument_word_fits(p, m, forms / 16 % 16, i.second)
-        && argument_word_fits(p, m, forms / 256, i.third)
+    argument_word_fits(limits, forms % 16, i.first)
+        && argument_word_fits(limits, forms / 16 % 16, i.second)
+        && argument_word_fits(limits, forms / 256, i.third)
 }
 
 // An instruction's number, and arguments as its row has them.
 #[tactic(auto, using(crate::proofs::FitLaws::low_head, crate::proofs::FitLaws::high_head))]
-fn cell_fits(p: Parameters, m: u32, forms: &[u32], i: Instruction) -> bool
-    requires fit { Fit p }
-    requires m_value { m ≡ limit p.k }
-    requires forms_value { forms.now ≡ form_table }
-    ensures { result ≡ cell_fits p (cell_from i) }
+fn cell_fits(limits: Limits, forms: &[u32], i: Instruction) -> bool
+    requires { forms.now ≡ form_table }
+    ensures { result ≡ cell_fits limits.parameters (cell_from i) }
 {
     match i.number {
-        1..=INSTRUCTIONS => arguments_fit(p, m, forms_of(forms, i.number), i),
+        1..=INSTRUCTIONS => arguments_fit(limits, forms_of(forms, i.number), i),
         _ => false,
     }
 }
 
-// What a cell is. m is document 01's M, and `forms` the table of forms.
+// What a cell is. `forms` is the table of forms.
 #[tactic(auto, unfolding(crate::specs::Decode::decoded_of))]
-pub fn decode(cell: &[u32], p: Parameters, m: u32, forms: &[u32]) -> Decoded
+pub fn decode(cell: &[u32], limits: Limits, forms: &[u32]) -> Decoded
     requires cell_len { length cell.now ≡ 4 }
-    requires fit { Fit p }
-    requires m_value { m ≡ limit p.k }
     requires forms_value { forms.now ≡ form_table }
-    ensures { result ≡ decoded_of p (cell_of cell.now) }
+    ensures { result ≡ decoded_of limits.parameters (cell_of cell.now) }
 {
     let i = read_cell(cell);
     if i == Instruction::EMPTY {
         Decoded::Empty
-    } else if cell_fits(p, m, forms, i) {
+    } else if cell_fits(limits, forms, i) {
         Decoded::Runs(i)
     } else {
         Decoded::Invalid

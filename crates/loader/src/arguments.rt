@@ -8,8 +8,8 @@ ghost use Rattle.model.specs.Load.{special_of, after_d, argument, checked_argume
 ghost use Rattle.loader.specs.Faults.{indexed_of, checked_of};
 ghost use Rattle.loader.specs.Keys.{Finds};
 
-use crate::limits::Limits;
 use crate::names::find_word;
+use bounds::limits::Limits;
 use image::forms::{allows_direct, allows_number, allows_register, allows_special};
 use model::Refusal;
 use model::words::{DIRECT, FIRST_NUMBER, FIRST_REGISTER, IAR, KIND, REGISTER};

@@ -2,7 +2,6 @@
 #![tactic(auto)]
 
 pub mod arguments;
-pub mod limits;
 pub mod line;
 pub mod names;
 pub mod tables;
@@ -14,10 +13,9 @@ ghost use Rattle.model.specs.Parameters.{Fit};
 ghost use Rattle.model.specs.Replies.{refusal_number_of, load_answer};
 ghost use Rattle.loader.specs.Passes.{Ready, Filled};
 
-use crate::limits::Limits;
 use crate::line::parse_line;
 use crate::tables::Tables;
-use bounds::limits::check_parameters;
+use bounds::limits::{Limits, check_parameters};
 use image::decode::Instruction;
 use model::{LoadError, Parameters, Record, Refusal};
 use text::lines::{count_lines, next_line};

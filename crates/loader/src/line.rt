@@ -9,9 +9,9 @@ ghost use Rattle.loader.specs.Faults.{checked_of};
 ghost use Rattle.loader.specs.Lines.{form_count, counted};
 
 use crate::arguments::argument_word;
-use crate::limits::Limits;
 use crate::names::find_name;
 use crate::tables::Tables;
+use bounds::limits::Limits;
 use image::decode::Instruction;
 use image::forms::{NOP, forms_of};
 use model::Refusal;

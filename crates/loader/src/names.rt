@@ -90,7 +90,7 @@ const LONG: [&[u8]; 4] = [
     b"DUMP_DATA_MEM",
 ];
 
-// The word is this name.
+// The word is this name. Only the word is taken in capitals, as the definition has it, so that no method that ignores the case of both would do.
 pub fn same_word(w: &[u8], name: &[u8]) -> bool
     ensures { result ≡ same_word w.now name.now }
 {

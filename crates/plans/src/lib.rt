@@ -41,7 +41,8 @@ impl Plan {
     pub const OUTPUT: u32 = 6;
 }
 
-// A value goes somewhere, and IAR is raised.
+// A value goes somewhere, and IAR is raised. That IAR is T at most is asked here and below, and no fact of the type Core: a core of this type would be
+// made anew, and proved, at each step, where the engine knows it of every state.
 #[tactic(auto, unfolding(crate::specs::Plans::written_plan))]
 pub fn store(to: u32, value: i32, at: Core) -> Plan
     requires { at.iar ≤ max_instructions }

@@ -1,11 +1,11 @@
 // What is printed of an image.
 ghost use Rattle.std.specs.Prelude.{◌≡◌, ◌*◌, length};
-ghost use Rattle.model.specs.Parameters.{limit, Fit};
+ghost use Rattle.model.specs.Parameters.{Fit};
 ghost use Rattle.image.specs.Forms.{form_table};
 ghost use Rattle.prices.specs.Prices.{price_table};
 
 use crate::printer::Printer;
-use bounds::limits::{check_parameters, limit_of};
+use bounds::limits::{Limits, check_parameters};
 use image::check::image_fits;
 use image::decode::{Decoded, decode};
 use image::forms::form_table;
@@ -23,15 +23,13 @@ fn put_words(to: &mut Printer, image: &[u32]) {
 }
 
 // The cost of a cell's instruction and the count of the values that it writes; `-` for an empty cell, `!` for one that no text yields.
-fn put_cell(to: &mut Printer, cell: &[u32], p: Parameters, m: u32, forms: &[u32], prices: &[u32])
+fn put_cell(to: &mut Printer, cell: &[u32], limits: Limits, forms: &[u32], prices: &[u32])
     requires cell_len { length cell.now ≡ 4 }
-    requires fit { Fit p }
-    requires m_value { m ≡ limit p.k }
     requires forms_value { forms.now ≡ form_table }
     requires prices_value { prices.now ≡ price_table }
 {
-    let decoded = decode(cell, p, m, forms);
-    match decoded {
+    let p = limits.parameters;
+    match decode(cell, limits, forms) {
         Decoded::Runs(i) => {
             to.put(cost(i, p, prices));
             to.put(value_count(i.number, p));
@@ -44,11 +42,11 @@ fn put_cell(to: &mut Printer, cell: &[u32], p: Parameters, m: u32, forms: &[u32]
 fn put_cells(to: &mut Printer, p: Parameters, image: &[u32])
     requires fit { Fit p }
 {
-    let m = limit_of(p.k);
+    let limits = Limits::new(p);
     let forms = form_table();
     let prices = price_table();
     for cell in image.chunks_exact(4) {
-        put_cell(to, cell, p, m, &forms, &prices);
+        put_cell(to, cell, limits, &forms, &prices);
     }
     to.put_end();
 }

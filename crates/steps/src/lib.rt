@@ -13,6 +13,7 @@ use image::decode::Instruction;
 use model::Parameters;
 use operands::{Core, read};
 
+// Registers, data cells and the output are lent here and above as the caller lent them, and no struct holds them: they are read and written directly.
 // One step: the operands, then the plan, then what it does, unless it fails. `out` is the part of the output slice behind the values already written.
 pub fn step(
     i: Instruction,

@@ -7,4 +7,4 @@ use Rattle.image.proofs.check.image_fits.Given as goal
 abbrev pub invariant-loop-at : goal.invariant-loop-at
 invariant-loop-at l =
     let cells = enumerate_source l.at-iterator in
-    (chunks_exact_size cells ≡ 4) × Remaining l.p l.image (chunks_exact_rest cells) (enumerate_count l.at-iterator)
+    (chunks_exact_size cells ≡ 4) × Remaining l.fn.p l.image (chunks_exact_rest cells) (enumerate_count l.at-iterator)

@@ -3,4 +3,4 @@ use Rattle.replay.proofs.CellLaws.{runs_fit}
 use Rattle.replay.proofs.images.put_cell.Goals as goal
 
 pub cost-requires-clause-i_value : goal.cost-requires-clause-i_value
-cost-requires-clause-i_value c = runs_fit c.args.p _ c.decode-decoded.ensures c.in-Runs.is
+cost-requires-clause-i_value c = runs_fit c.args.limits.parameters _ c.decode.ensures c.in-Runs.is

@@ -1,5 +1,5 @@
 use Rattle.model.proofs.Fits.{limits}
-use Rattle.loader.proofs.limits.Limits.new.Goals as goal
+use Rattle.bounds.proofs.limits.Limits.new.Goals as goal
 
 pub limit_of-requires : goal.limit_of-requires
 limit_of-requires c = let l = limits c.args.parameters c.requires in (l.k-low, l.k-high)
