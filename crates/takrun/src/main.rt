@@ -132,105 +132,146 @@ fn size_of(n: u32, most: usize) -> usize
     if n <= most { n } else { 0 }
 }
 
-// A program's parameters, and what a run works on: the bytes of a file, and the greatest image, registers, data, values and lines.
-#[derive(Drop)]
-struct Program {
-    parameters: Parameters,
-    bytes: [u8; MAX_BYTES],
-    image: [u32; MAX_WORDS],
-    registers: [i32; MAX_REGISTERS],
-    cells: [i32; MAX_CELLS],
-    values: [i32; MAX_VALUES],
-    lines: [u8; MAX_LINES],
+// Grants as long as more follow. After a write that failed nothing more is written: the last line is missing, so that the loss can be seen.
+fn run_grants<W: Write>(
+    out: &mut W,
+    first: Report,
+    image: &[u32],
+    input: &[u8],
+    registers: &mut [i32],
+    cells: &mut [i32],
+    values: &mut [i32],
+    lines: &mut [u8],
+) -> Result<(), Failed>
+    requires { (length values.old ≡ slice_values) × (lines_bytes ≤ length lines.old) }
+{
+    let mut report = first;
+    while let Some(next) = next_grant(report, image, input, registers, cells, values, lines) {
+        report = next;
+        print(out, &lines[..report.count])?;
+    }
+    Ok(())
 }
 
-impl Program {
-    // The words of the image, the registers and the cells that the parameters ask for.
-    fn sizes(&self) -> (usize, usize, usize)
-        ensures value { (result.0 ≡ 4 * size_of self.now.parameters.t max_instructions) × (result.1 ≡ size_of self.now.parameters.n max_registers) × (result.2 ≡ size_of self.now.parameters.s max_cells) }
-        ensures within { (result.0 ≤ 4 * max_instructions) × (result.1 ≤ max_registers) × (result.2 ≤ max_cells) }
-    {
-        let p = self.parameters;
-        let words = 4 * size_of(p.t, MAX_WORDS / 4);
-        let n = size_of(p.n, MAX_REGISTERS);
-        let s = size_of(p.s, MAX_CELLS);
-        (words, n, s)
-    }
+// The text, loaded and started.
+fn load_text<R: Files>(
+    rt: &R,
+    p: Parameters,
+    bytes: &mut [u8],
+    image: &mut [u32],
+    registers: &mut [i32],
+    cells: &mut [i32],
+    lines: &mut [u8],
+) -> Report
+    requires sizes { Sizes p image.old (as_memory registers.old cells.old) }
+    requires in_bounds { 80 ≤ length lines.old }
+    ensures { result.count ≤ length lines.new }
+{
+    let count = read_file(rt, "tak.tcl", bytes);
+    open(p, &bytes[..count], image, registers, cells, lines)
+}
 
-    // The text, loaded and started.
-    fn load<R: Files>(&mut self, rt: &R) -> Report
-        ensures { result.count ≤ lines_bytes }
-    {
-        let p = self.parameters;
-        let (words, n, s) = self.sizes();
-        let count = read_file(rt, "tak.tcl", &mut self.bytes);
-        let image = &mut self.image[..];
-        let registers = &mut self.registers[..];
-        let cells = &mut self.cells[..];
-        open(
-            p,
-            &self.bytes[..count],
-            &mut image[..words],
-            &mut registers[..n],
-            &mut cells[..s],
-            &mut self.lines,
-        )
-    }
+// The input takes the text's place in the buffer.
+fn run_input<R: Files, W: Write>(
+    rt: &R,
+    out: &mut W,
+    first: Report,
+    bytes: &mut [u8],
+    image: &[u32],
+    registers: &mut [i32],
+    cells: &mut [i32],
+    values: &mut [i32],
+    lines: &mut [u8],
+) -> Result<(), Failed>
+    requires { (length values.old ≡ slice_values) × (lines_bytes ≤ length lines.old) }
+{
+    let count = read_file(rt, "tak.in", bytes);
+    run_grants(
+        out,
+        first,
+        image,
+        &bytes[..count],
+        registers,
+        cells,
+        values,
+        lines,
+    )
+}
 
-    // Grants as long as more follow. The input takes the text's place. After a write that failed nothing more is written: the last line is missing, so
-    // that the loss can be seen.
-    fn run_grants<R: Files, W: Write>(
-        &mut self,
-        rt: &R,
-        out: &mut W,
-        first: Report,
-    ) -> Result<(), Failed> {
-        let (words, n, s) = self.sizes();
-        let count = read_file(rt, "tak.in", &mut self.bytes);
-        let input = &self.bytes[..count];
-        let image = &self.image[..words];
-        let registers = &mut self.registers[..];
-        let cells = &mut self.cells[..];
-        let values = &mut self.values[..];
-        let lines = &mut self.lines[..];
-        let mut report = first;
-        while let Some(next) = next_grant(
-            report,
-            image,
-            input,
-            &mut registers[..n],
-            &mut cells[..s],
-            values,
-            lines,
-        ) {
-            report = next;
-            print(out, &lines[..report.count])?;
-        }
-        Ok(())
+fn run<R: Files, W: Write>(
+    rt: &R,
+    out: &mut W,
+    p: Parameters,
+    bytes: &mut [u8],
+    image: &mut [u32],
+    registers: &mut [i32],
+    cells: &mut [i32],
+    values: &mut [i32],
+    lines: &mut [u8],
+) -> Result<(), Failed>
+    requires sizes { Sizes p image.old (as_memory registers.old cells.old) }
+    requires values_len { (length values.old ≡ slice_values) × (lines_bytes ≤ length lines.old) }
+{
+    let report = load_text(rt, p, bytes, image, registers, cells, lines);
+    print(out, &lines[..report.count])?;
+    if report.next.is_none() {
+        return Ok(());
     }
+    run_input(
+        rt, out, report, bytes, image, registers, cells, values, lines,
+    )
+}
 
-    fn run<R: Files, W: Write>(&mut self, rt: &R, out: &mut W) -> Result<(), Failed> {
-        let report = self.load(rt);
-        print(out, &self.lines[..report.count])?;
-        if report.next.is_none() {
-            return Ok(());
-        }
-        self.run_grants(rt, out, report)
-    }
+// The slices of the parameters' lengths. Here and above the buffers are lent one by one: a struct of the arrays was tried, and takes 65,536 bytes of
+// stack more than there are, for what fills a field.
+fn run_slices<R: Files, W: Write>(
+    rt: &R,
+    out: &mut W,
+    p: Parameters,
+    bytes: &mut [u8],
+    image: &mut [u32],
+    registers: &mut [i32],
+    cells: &mut [i32],
+    values: &mut [i32],
+    lines: &mut [u8],
+) -> Result<(), Failed>
+    requires max_instructions_in_bounds { (4 * max_instructions ≤ length image.old) × (max_registers ≤ length registers.old) × (max_cells ≤ length cells.old) }
+    requires values_len { (length values.old ≡ slice_values) × (lines_bytes ≤ length lines.old) }
+{
+    let words = 4 * size_of(p.t, MAX_WORDS / 4);
+    let n = size_of(p.n, MAX_REGISTERS);
+    let s = size_of(p.s, MAX_CELLS);
+    run(
+        rt,
+        out,
+        p,
+        bytes,
+        &mut image[..words],
+        &mut registers[..n],
+        &mut cells[..s],
+        values,
+        lines,
+    )
 }
 
 fn main(rt: HostRuntime) {
     let mut bytes = [0u8; MAX_BYTES];
-    let parameters = read_parameters(&rt, &mut bytes);
-    let mut program = Program {
-        parameters,
-        bytes,
-        image: [0; MAX_WORDS],
-        registers: [0; MAX_REGISTERS],
-        cells: [0; MAX_CELLS],
-        values: [0; MAX_VALUES],
-        lines: [0; MAX_LINES],
-    };
+    let p = read_parameters(&rt, &mut bytes);
+    let mut image = [0u32; MAX_WORDS];
+    let mut registers = [0i32; MAX_REGISTERS];
+    let mut cells = [0i32; MAX_CELLS];
+    let mut values = [0i32; MAX_VALUES];
+    let mut lines = [0u8; MAX_LINES];
     // A write that failed shows by the line that is missing.
-    let _ = program.run(&rt, &mut rt.stdout());
+    let _ = run_slices(
+        &rt,
+        &mut rt.stdout(),
+        p,
+        &mut bytes,
+        &mut image,
+        &mut registers,
+        &mut cells,
+        &mut values,
+        &mut lines,
+    );
 }
