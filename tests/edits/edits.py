@@ -31,9 +31,7 @@ ROOT = pathlib.Path(__file__).resolve().parents[2]
 REFUSED = pathlib.Path(__file__).resolve().parent / "refused"
 
 # An edit that changes a proof too: why.
-PROOF_PARTS = {
-    "machine/refused_grant_has_written": "the proof hands on what the call that the wrong program has more promises",
-}
+PROOF_PARTS = {}
 
 # A proof that names a goal, or a fact before a step, that is not there shows nothing about the program.
 MISFITS = [
