@@ -14,8 +14,9 @@ use Rattle.settings.specs.Intakes.{known_wrong, goes_on, at_end, taken, Pieces, 
 use Rattle.settings.specs.Scans.{unread, ended, extends, scanned, scanned_all, scan_of, settings_of}
 use Rattle.settings.specs.declared.Scan.{Scan}
 use Rattle.settings.specs.declared.intakes.Intake.{Intake}
+use Rattle.settings.specs.declared.transfers.Failed.{Failed}
 use Rattle.settings.specs.declared.transfers.Transfer.{Transfer}
-use Rattle.std.specs.Prelude.{Option, Some, None, Ok}
+use Rattle.std.specs.Prelude.{Option, Some, None, Ok, Err}
 use Rattle.settings.proofs.ScanLaws.{Void, ended-sixth, scanned-blank, scanned-digit, scanned-bad}
 use Rattle.settings.proofs.Chunks.{settings_of_void, settings_of-file}
 
@@ -83,3 +84,8 @@ pieces-settings {a} (stops t bytes rest part wrong) before e =
 pieces-settings {a} (next t bytes rest part later) before e =
     let piece = take t.count bytes in
     pieces-settings later (before ++ piece) (piece_scan a t bytes part before e) ∙ ap settings (append_assoc before piece rest)
+
+-- A file that cannot be read counts as empty.
+pub taken-failed : (a : Intake) (e : Failed) (bytes : List ℕ) → record { scan = Some unread; calls = 0 } ≡ taken a (Err e) bytes
+unfolding taken
+taken-failed a e bytes = refl

@@ -222,8 +222,8 @@ fn run<R: Files, W: Write>(
     )
 }
 
-// The slices of the parameters' lengths. Here and above the buffers are lent one by one: a struct of the arrays was tried, and takes 65,536 bytes of
-// stack more than there are, for what fills a field.
+// The slices of the parameters' lengths. The buffers are lent one by one, here and above: a struct of the arrays was tried, and with it main took 281,992
+// bytes of stack, more than the 256 KiB there are.
 fn run_slices<R: Files, W: Write>(
     rt: &R,
     out: &mut W,
