@@ -27,6 +27,8 @@ CALLED = {
     "replay": {"read", "write", "malloc", "realloc", "free", "__xpg_strerror_r", "__errno_location", "__sysv_signal"},
 }
 BY_ITSELF = {"__libc_start_main", "memcpy", "memmove", "memset"}
+# What the made names of functions have of `core` without its name: traits, and the type parameter of a slice's methods.
+OF_CORE = {"Destruct", "Fn", "FnMut", "FnOnce", "T"}
 # The libraries of the kit that declare C functions.
 DECLARE = {"libc", "os", "std"}
 
@@ -85,10 +87,17 @@ def wrong_in_library(crate, lists, code, ours):
         return f"a library over {', '.join(sorted(others))} of the kit"
     if not re.search(rf'"{crate}::\w', code) and '"body"' in code:
         return "its code names none of its own functions, so that it is in another form"
-    # the first word of each path; a + stands between the words where rattle makes a name of a path
-    heads = set(re.findall(r"(?<![\w:])([A-Za-z_]\w*)::", code)) | set(re.findall(r"(?<=\+)([A-Za-z_]\w*)\+\+", code))
-    others = heads - set(ours) - {"core"}
+    others = heads(code) - set(ours) - {"core"} - OF_CORE
     return f"its code names functions of {', '.join(sorted(others))}" if others else None
+
+
+def heads(code):
+    """The first word of each path. Where rattle makes a word of a path, ++ stands between its words, and a + before what the function is a method of."""
+    found = set(re.findall(r"(?<![\w:+])([A-Za-z_]\w*)::", code)) | set(re.findall(r"(?<=[^+]\+)([A-Za-z_]\w*)::", code))
+    for made in re.findall(r"[A-Za-z_][\w+]*\+[\w+]*", code):
+        words = [part.split("++") for part in re.split(r"(?<!\+)\+(?!\+)", made)]
+        found |= {path[0] for path in words if len(path) > 1}
+    return found
 
 
 def replaced(text, old, new):
