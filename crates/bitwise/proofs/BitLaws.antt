@@ -17,17 +17,7 @@ use Rattle.bounds.specs.Bounds.{IsLimit, Within}
 use Rattle.bounds.proofs.Integers.{sub_ge, sub_lt}
 use Rattle.bounds.proofs.LimitLaws.{one, double}
 
--- K BITS of a value, and back.
-pub bits_negative : (m : ℕ) (x : ℤ) → mag x < m → lt_z x (pos 0) ≡ true → x +ℤ pos (2 * m) ≡ pos (bits_of m x)
-unfolding bits_of
-bits_negative m (pos n) h p = let k = ltb-true n 0 p in absurd (omega arith)
-bits_negative m (negsuc n) h p = sub_ge (2 * m) (suc n) (omega arith)
-
-pub bits_positive : (m : ℕ) (x : ℤ) → lt_z x (pos 0) ≡ false → x ≡ pos (bits_of m x)
-unfolding bits_of
-bits_positive m (pos n) p = refl
-bits_positive m (negsuc n) p = absurd (subst T p tt)
-
+-- K BITS read back.
 pub signed_low : (m u : ℕ) → u < m → pos u ≡ signed_of m u
 unfolding signed_of
 signed_low m u h = rw (lt-ltb u m h)

@@ -1,4 +1,5 @@
 // RNOT to ASR: operations on the K bits of a value. RSL shifts in 64 bits, ASR in 32.
+// No one function over a closure for RAND, ROR and RXOR: each is one line over `signed` and `bits`, and its proof needs the bound of its own operator.
 ghost use Rattle.std.specs.Prelude.{◌≡◌, ℕ, ◌*◌, ◌<◌, ◌+ℤ◌};
 ghost use Rattle.std.specs.Int.Bits.{bit_and, bit_or, bit_xor};
 ghost use Rattle.model.specs.Arithmetic.{bits_of, signed_of, inverted, bitwise, shift_left, shift_right, shift_right_signed};
@@ -102,8 +103,8 @@ pub fn rsl(m: u32, x: i32) -> i32
     ensures range { Within m result }
 {
     let twice = double(x);
-    let top = m as i64;
-    let full = (2 * m) as i64;
+    let top = i64::from(m);
+    let full = i64::from(2 * m);
     if twice < -top {
         return (twice + full) as i32;
     }

@@ -1,5 +1,4 @@
-// What the instructions make of the K bits of a value. m is document 01's M throughout, a plain number, so that a contract hands it to
-// the definitions as it is.
+// What the instructions make of the K bits of a value. m is document 01's M throughout; why it and Within are no types stands at the head of `arithmetic`.
 #![tactic(auto)]
 
 pub mod bits;

@@ -6,7 +6,7 @@ ghost use Rattle.bounds.specs.Bounds.{IsLimit};
 
 use model::{Parameters, Record, Refusal};
 
-// M for K = 8..30: "M comes from a table with one entry per K."
+// M for K = 8..30. A table, since one entry per K is the rule of the project: "M comes from a table with one entry per K."
 const LIMITS: [u32; 23] = [
     128, 256, 512, 1024, 2048, 4096, 8192, 16384, 32768, 65536, 131072, 262144, 524288, 1048576,
     2097152, 4194304, 8388608, 16777216, 33554432, 67108864, 134217728, 268435456, 536870912,
@@ -25,7 +25,7 @@ pub fn limit_of(k: u32) -> u32
 fn within(low: u32, high: u32, x: u32) -> bool
     ensures { result ≡ between low high x }
 {
-    low <= x && x <= high
+    (low..=high).contains(&x)
 }
 
 // A count of cells: 1..high, and at most M - 1.

@@ -26,28 +26,19 @@ fn copy(values: &[i32], out: &mut [i32])
     out[..values.len()].copy_from_slice(values)
 }
 
-// A block of values. By way of a local array its size is known, and each copy is one move of it.
-fn copy_block(values: &[i32], out: &mut [i32])
-    requires { (length values.now ≡ 512) × (512 ≤ length out.old) }
-    ensures { out.new ≡ output_after values.now out.old }
-{
-    let mut block = [0i32; BLOCK];
-    block.copy_from_slice(values);
-    copy(&block, out)
-}
-
-// The values at the front of the output, by blocks, at one place in both slices: as one copy 4,096 values take a third longer.
+// The values at the front of the output, block by block, so that each copy is one move of a known size: as one copy 4,096 values take a third longer.
+// No `chunks_exact_mut`: of the slice behind it only the length is known.
 fn dump(values: &[i32], out: &mut [i32])
     requires { length values.now ≤ length out.old }
     ensures { out.new ≡ output_after values.now out.old }
 {
-    let mut at = 0;
-    while BLOCK <= values.len() - at {
-        let end = at + BLOCK;
-        copy_block(&values[at..end], &mut out[at..]);
-        at = end;
+    match values.split_first_chunk::<BLOCK>() {
+        Some((block, rest)) => {
+            copy(block, out);
+            dump(rest, &mut out[BLOCK..])
+        }
+        None => copy(values, out),
     }
-    copy(&values[at..], &mut out[at..])
 }
 
 // One value at the front of the output.
@@ -75,7 +66,8 @@ fn write(to: u32, value: i32, registers: &mut [i32], cells: &mut [i32])
     }
 }
 
-// CLEAR_REG, CLEAR_DATA_MEM, DUMP_REG, DUMP_DATA_MEM and OUT.
+// CLEAR_REG, CLEAR_DATA_MEM, DUMP_REG, DUMP_DATA_MEM and OUT. Apart from the loop of steps, since their copies would take its registers.
+#[inline(never)]
 fn apply_other(to: u32, value: i32, registers: &mut [i32], cells: &mut [i32], out: &mut [i32])
     requires to_le_value_out { to ≤ value_out }
     requires cells_in_bounds { length (values_of to value registers.old cells.old) ≤ length out.old }

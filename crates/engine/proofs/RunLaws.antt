@@ -30,7 +30,9 @@ use Rattle.engine.specs.declared.looks.Offer.{Offer}
 use Rattle.operands.specs.Cores.{state_in}
 use Rattle.operands.specs.declared.Core.{Core}
 use Rattle.steps.specs.Steppable.{written, Steppable}
-use Rattle.engine.specs.Runs.{Runnable, stop_at, RunIs}
+use Rattle.engine.specs.Programs.{environment_in}
+use Rattle.engine.specs.Runs.{stop_at, RunIs}
+use Rattle.engine.specs.declared.program.Program.{Program}
 
 -- WHAT WAS FOUND
 module _ (e : Environment) (s : State) where
@@ -93,10 +95,12 @@ module _ (e : Environment) (start : Core) (before granted : ℕ) (memory₀ : Me
   begins p s =
       record { same = refl; rest = refl; within = omega arith; long = refl; paid = p; rises = le_refl before; sound = s }
 
-module _ {e : Environment} {start : Core} {before granted : ℕ} {memory₀ : Memory} {slice₀ : List ℤ} {m : ℕ} {prices : List ℕ}
-    (h : Runnable e m prices start before granted memory₀)
+module _ (h : Program) {start : Core} {before granted : ℕ} {memory₀ : Memory} {slice₀ : List ℤ}
     {at : Core} {spent count : ℕ} {memory : Memory} {slice : List ℤ}
-    (g : RunInvariant e start before granted memory₀ slice₀ at spent count memory slice) where
+    (g : RunInvariant (environment_in h) start before granted memory₀ slice₀ at spent count memory slice) where
+  abbrev e : Environment
+  e = environment_in h
+
   abbrev s : State
   s = state_in at memory
 
@@ -119,7 +123,7 @@ module _ {e : Environment} {start : Core} {before granted : ℕ} {memory₀ : Me
         | goes ↦ run (Tak e) granted (length slice₀) (advance (Tak e) (run_state e start before granted memory₀ slice₀ at spent count memory slice))
       ]
   next-run =
-      tak-run e h.fit granted (length slice₀) (run_state e start before granted memory₀ slice₀ at spent count memory slice)
+      tak-run e h.limits.fit granted (length slice₀) (run_state e start before granted memory₀ slice₀ at spent count memory slice)
       ∙ rw (length-take-le count slice g.within, g.long)
 
   -- A look that stops: all is as `run` of model says.
@@ -160,7 +164,7 @@ module _ {e : Environment} {start : Core} {before granted : ℕ} {memory₀ : Me
     cost-paid = rw is-offered (omega (arith, g.paid, goes-from.paid))
 
     pub cost-some : 1 ≤ o.cost
-    cost-some = rw is-offered (priced e h.fit s goes-from.run)
+    cost-some = rw is-offered (priced e h.limits.fit s goes-from.run)
 
     pub room_for : count + o.values ≤ length slice
     room_for = rw is-offered (omega (arith, g.within, goes-from.room_for))
@@ -168,7 +172,7 @@ module _ {e : Environment} {start : Core} {before granted : ℕ} {memory₀ : Me
     cell-is : cell_fits e.parameters (current_cell e s) ≡ true
     cell-is =
         let r = is_running e s goes-from.run in
-        cell-fits e.parameters e.parameters.t e.image at.iar h.image-fits (omega (arith, g.sound.iar, r.iar)) r.cell
+        cell-fits e.parameters e.parameters.t e.image at.iar h.fits (omega (arith, g.sound.iar, r.iar)) r.cell
 
     values-are : written o.instruction at memory ≡ step_values e s
     unfolding step_values
@@ -177,11 +181,9 @@ module _ {e : Environment} {start : Core} {before granted : ℕ} {memory₀ : Me
     part_length : length (take (length slice - count) (drop count slice)) ≡ length slice - count
     part_length = length-take-le (length slice - count) (drop count slice) (rw length-drop (le_refl _))
 
-    pub steppable : Steppable (environment_of e.parameters [] e.input) m o.instruction at memory (length (take (length slice - count) (drop count slice)))
+    pub steppable : Steppable (environment_of e.parameters [] e.input) o.instruction at memory (length (take (length slice - count) (drop count slice)))
     steppable =
         record {
-          fit = h.fit;
-          limit_is = h.limit_is;
           sound = sound-image g.sound;
           instruction = rw is-offered cell-is;
           room_for = rw (part_length, values-are) goes-from.room_for;
@@ -215,5 +217,5 @@ module _ {e : Environment} {start : Core} {before granted : ℕ} {memory₀ : Me
             long = length-wrote slice v count g.within room ∙ g.long;
             paid = omega (arith, g.paid, goes-from.paid);
             rises = omega (arith, g.rises);
-            sound = rw is-step (step_keeps e h.fit h.image-fits s g.sound goes-from.run);
+            sound = rw is-step (step_keeps e h.limits.fit h.fits s g.sound goes-from.run);
           })

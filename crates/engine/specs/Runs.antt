@@ -1,22 +1,14 @@
 -- A run of looks and steps, as the code has it.
-use Rattle.std.specs.Prelude.{ℕ, ◌*◌, ◌≤◌, true, List, [], ◌++◌, ◌≡◌, ℤ, length, drop}
+use Rattle.std.specs.Prelude.{ℕ, ◌≤◌, List, [], ◌++◌, ◌≡◌, ℤ, length, drop}
 use Rattle.model.proofs.Keeps.{Sound}
 use Rattle.model.specs.Grants.{Stop, run}
-use Rattle.model.specs.Images.{image_fits}
-use Rattle.model.specs.Parameters.{Fit, limit}
 use Rattle.model.specs.Step.{Environment, Memory, State, Tak}
 use Rattle.operands.specs.Cores.{state_in}
 use Rattle.operands.specs.declared.Core.{Core}
-use Rattle.prices.specs.Prices.{price_table}
 use Rattle.engine.specs.declared.Ran.{Ran}
 
--- What passed checks say of the parameters, the image, the record and the memory; and the price table.
-pub record Runnable (e : Environment) (m : ℕ) (prices : List ℕ) (start : Core) (before granted : ℕ) (memory : Memory) : Type 0 where
-  pub fit : Fit e.parameters
-  pub limit_is : m ≡ limit e.parameters.k
-  pub prices_are : prices ≡ price_table
-  pub image-length : length e.image ≡ 4 * e.parameters.t
-  pub image-fits : image_fits e.parameters e.image ≡ true
+-- What passed checks say of the record and the memory.
+pub record Runnable (e : Environment) (start : Core) (before granted : ℕ) (memory : Memory) : Type 0 where
   pub sound : Sound e (state_in start memory)
   pub paid : before ≤ granted
 

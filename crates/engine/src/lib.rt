@@ -2,12 +2,15 @@
 #![tactic(auto)]
 
 pub mod looks;
+pub mod program;
 
-ghost use Rattle.model.specs.Step.{as_memory, environment_of};
+ghost use Rattle.model.specs.Step.{as_memory};
+ghost use Rattle.engine.specs.Programs.{environment_in};
 ghost use Rattle.engine.specs.Runs.{Runnable, RunIs};
 
 use crate::looks::look;
-use model::{Ending, Parameters};
+use crate::program::Program;
+use model::Ending;
 use operands::Core;
 use steps::step;
 
@@ -22,11 +25,7 @@ pub struct Ran {
 
 // Looks and steps from a core, with `before` cycles spent and `granted` granted. Each step is lent the output slice behind the values written.
 pub fn run(
-    p: Parameters,
-    m: u32,
-    image: &[u32],
-    prices: &[u32],
-    input: &[u8],
+    program: &Program,
     start: Core,
     before: u64,
     granted: u64,
@@ -34,8 +33,8 @@ pub fn run(
     cells: &mut [i32],
     out: &mut [i32],
 ) -> Ran
-    requires { Runnable (environment_of p image.now input.now) m prices.now start before granted (as_memory registers.old cells.old) }
-    ensures { RunIs (environment_of p image.now input.now) start before granted
+    requires { Runnable (environment_in program.now) start before granted (as_memory registers.old cells.old) }
+    ensures { RunIs (environment_in program.now) start before granted
         (as_memory registers.old cells.old) out.old
         result (as_memory registers.new cells.new) out.new }
 {
@@ -43,7 +42,14 @@ pub fn run(
     let mut spent = before;
     let mut count = 0;
     loop {
-        match look(at, p, image, prices, granted - spent, out.len() - count) {
+        match look(
+            at,
+            program.limits.parameters,
+            program.image,
+            program.prices,
+            granted - spent,
+            out.len() - count,
+        ) {
             Err(ending) => return Ran {
                 ending,
                 core: at,
@@ -54,7 +60,15 @@ pub fn run(
                 let rest = &mut out[count..];
                 spent += offer.cost;
                 count += offer.values;
-                at = step(offer.instruction, p, m, at, input, registers, cells, rest);
+                at = step(
+                    offer.instruction,
+                    program.limits,
+                    at,
+                    program.input,
+                    registers,
+                    cells,
+                    rest,
+                );
             }
         }
     }

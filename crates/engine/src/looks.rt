@@ -1,7 +1,6 @@
 // The look before a step.
 ghost use Rattle.std.specs.Prelude.{◌≡◌, true, List, ℕ, ◌*◌, ◌≤◌, length};
 ghost use Rattle.model.specs.Images.{image_fits};
-ghost use Rattle.prices.specs.Prices.{price_table};
 ghost use Rattle.operands.specs.Cores.{state_in};
 ghost use Rattle.model.proofs.Fits.{Sized};
 ghost use Rattle.model.specs.Step.{Memory, environment_of};
@@ -10,7 +9,7 @@ ghost use Rattle.engine.specs.Looks.{found_at};
 use image::decode::{Instruction, read_cell};
 use model::{Ending, Parameters};
 use operands::Core;
-use prices::{cost, value_count};
+use prices::{Prices, value_count};
 
 // The instruction that would run, its cost, and how many values it writes.
 #[derive(Clone, Copy)]
@@ -20,16 +19,16 @@ pub struct Offer {
     pub values: usize,
 }
 
-// The step that may run, or in order: failed, ended, paused, output full. The memory has no part in it but its lengths.
+// The step that may run, or in order: failed, ended, paused, output full. The memory has no part in it but its lengths. Lent apart and no Program: that
+// has parameters that fit, which a look does not ask.
 pub fn look(
     at: Core,
     p: Parameters,
     image: &[u32],
-    prices: &[u32],
+    prices: Prices,
     allowance: u64,
     room: usize,
 ) -> Result<Offer, Ending>
-    requires prices_value { prices.now ≡ price_table }
     requires image_len { length image.now ≡ 4 * p.t }
     requires image_value { image_fits p image.now ≡ true }
     requires iar_le_t { at.iar ≤ p.t }
@@ -49,7 +48,7 @@ pub fn look(
     if number == 0 {
         return Err(Ending::Ended);
     }
-    let cycles = cost(i, p, prices);
+    let cycles = prices.cost(i, p);
     if allowance < cycles {
         return Err(Ending::Paused);
     }

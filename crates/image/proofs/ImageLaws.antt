@@ -1,12 +1,12 @@
 -- The check of an image, turn by turn. Assumes nothing.
-use Prim.Native.Nat.{ℕ, suc, ◌+◌, ◌*◌, ◌-◌, ◌≤◌, ◌<◌}
+use Prim.Native.Nat.{ℕ, zero, suc, ◌+◌, ◌*◌, ◌-◌, ◌≤◌, ◌<◌}
 use mathlib.Core.Path.{◌≡◌, refl, sym, ap, ◌∙◌}
 use mathlib.Core.Bool.{Bool, true, false}
-use mathlib.Core.List.{List, [], ◌∷◌, ◌++◌}
+use mathlib.Core.List.{List, [], ◌∷◌}
 use native.Mathlib.Omega.{arith}
 use lib.Dec.{eqb}
-use lib.ListN.{length, take, drop, length-drop, length-append}
-use lib.Seq.{drop-drop, take_at, drop_at}
+use lib.ListN.{get_or, take, drop}
+use lib.Seq.{drop-drop}
 use Rattle.std.specs.List.{list_all}
 use Rattle.model.specs.declared.Parameters.{Parameters}
 use Rattle.model.specs.Words.{Cell, cell_of, is_empty}
@@ -15,12 +15,22 @@ use Rattle.image.specs.declared.decode.Instruction.{Instruction}
 use Rattle.image.specs.declared.decode.Decoded.{Decoded}
 use Rattle.image.specs.declared.decode.Decoded.TheVariants.{Runs, Empty, Invalid}
 use Rattle.image.specs.Decode.{decoded_of}
+use Rattle.std.specs.Simd.{first_chunks}
 
 -- ZEROS
 pub zeros : (ws : List ℕ) → list_all (λ w. eqb w 0) ws ≡ all_zero ws
 unfolding all_zero
 zeros [] = refl
 zeros (w ∷ ws) = rw (zeros ws)
+
+-- The chunk at a place.
+chunk_at : (k n : ℕ) (ws : List ℕ) → n < k → get_or (first_chunks 4 k ws) n [] ≡ take 4 (drop (4 * n) ws)
+chunk_at zero n ws h = absurd (omega arith)
+chunk_at (suc k) zero ws h = refl
+chunk_at (suc k) (suc n) ws h =
+    let e : 4 + 4 * n ≡ 4 * suc n = omega arith in
+    let f = drop-drop (4 * n) 4 ws ∙ ap (λ (i : ℕ). drop i ws) e in
+    chunk_at k n (drop 4 ws) (omega arith) ∙ ap (take 4) f
 
 -- CELLS. What is left to test behind a cell that was decoded.
 abbrev behind : Parameters → (t : ℕ) (ws : List ℕ) → Decoded → Bool
@@ -40,45 +50,30 @@ first_cell p t ws = go (is_empty c) refl (cell_fits p c) refl
     go false h true k = simp (cells_fit, decoded_of, h, k)
     go false h false k = simp (cells_fit, decoded_of, h, k)
 
--- The image fits if the cells from the n-th on, `rest`, do.
-pub record Remaining (p : Parameters) (image rest : List ℕ) (n : ℕ) : Type 0 where
-  pub is-rest : rest ≡ drop (4 * n) image
-  pub same : image_fits p image ≡ cells_fit p (p.t - n) rest
+-- The image fits if the cells from the n-th on do.
+abbrev pub Remaining : (p : Parameters) (image : List ℕ) (n : ℕ) → Type 0
+Remaining p image n = image_fits p image ≡ cells_fit p (p.t - n) (drop (4 * n) image)
 
-pub begins : (p : Parameters) (image : List ℕ) → Remaining p image image 0
-begins p image = let e : p.t - 0 ≡ p.t = omega arith in record { is-rest = refl; same = rw e }
-
-module _ {p : Parameters} {image rest : List ℕ} {n : ℕ} (h : length image ≡ 4 * p.t) (g : Remaining p image rest n) where
-  rest-length : length rest ≡ 4 * p.t - 4 * n
-  rest-length = rw (g.is-rest, length-drop (4 * n) image, h)
-
-  pub ends : length rest < 4 → true ≡ image_fits p image
+module _ (p : Parameters) (image : List ℕ) {n : ℕ} (g : Remaining p image n) where
+  pub ends : p.t ≤ n → true ≡ image_fits p image
   unfolding cells_fit
-  ends l = let e : p.t - n ≡ 0 = omega (arith, rest-length) in sym (rw e at g.same)
+  ends l = let e : p.t - n ≡ 0 = omega arith in sym (rw e at g)
 
-  -- The next four words, and what the decoder says of them.
-  module _ (cell tail : List ℕ) (split : rest ≡ cell ++ tail) (four : length cell ≡ 4) where
-    long : 4 ≤ length rest
-    long = rw split (simp length-append (omega arith))
+  module _ {k : ℕ} (l : n < k) (few : k ≡ p.t) {d : Decoded} (e : d ≡ decoded_of p (cell_of (get_or (first_chunks 4 k image) n []))) where
+    told : image_fits p image ≡ behind p (p.t - (n + 1)) (drop (4 * n) image) d
+    told =
+        let f : p.t - n ≡ suc (p.t - (n + 1)) = omega arith in
+        rw f at g
+        ∙ first_cell p (p.t - (n + 1)) (drop (4 * n) image)
+        ∙ ap (behind p (p.t - (n + 1)) (drop (4 * n) image)) (ap (λ (ws : List ℕ). decoded_of p (cell_of ws)) (sym (chunk_at k n image l)) ∙ sym e)
 
-    next-cell : image_fits p image ≡ behind p (p.t - (n + 1)) rest (decoded_of p (cell_of cell))
-    next-cell =
-        let e : p.t - n ≡ suc (p.t - (n + 1)) = omega (arith, rest-length, long) in
-        let f : take 4 rest ≡ cell = rw split (take_at cell tail 4 four) in
-        rw f at (rw e at g.same ∙ first_cell p (p.t - (n + 1)) rest)
+    pub cell-runs : {i : Instruction} → d ≡ Runs i → Remaining p image (n + 1)
+    cell-runs q =
+        let m : 4 * n + 4 ≡ 4 * (n + 1) = omega arith in
+        rw q at told ∙ ap (cells_fit p (p.t - (n + 1))) (drop-drop 4 (4 * n) image ∙ ap (λ (j : ℕ). drop j image) m)
 
-    module _ {d : Decoded} (e : d ≡ decoded_of p (cell_of cell)) where
-      told : {x : Decoded} → d ≡ x → image_fits p image ≡ behind p (p.t - (n + 1)) rest x
-      told k = next-cell ∙ ap (behind p (p.t - (n + 1)) rest) (sym e ∙ k)
+    pub cell_empty : d ≡ Empty → all_zero (drop (4 * n) image) ≡ image_fits p image
+    cell_empty q = sym (rw q at told)
 
-      pub cell-runs : {i : Instruction} → d ≡ Runs i → Remaining p image tail (n + 1)
-      cell-runs k =
-          let f : drop 4 rest ≡ tail = rw split (drop_at cell tail 4 four) in
-          let m : 4 * n + 4 ≡ 4 * (n + 1) = omega arith in
-          record { is-rest = sym f ∙ rw g.is-rest (drop-drop 4 (4 * n) image) ∙ ap (λ (j : ℕ). drop j image) m; same = rw f at (told k) }
-
-      pub cell_empty : d ≡ Empty → (start : ℕ) → start ≡ 4 * n → all_zero (drop start image) ≡ image_fits p image
-      cell_empty k start j = rw j (sym (rw g.is-rest at (told k)))
-
-      pub cell_invalid : d ≡ Invalid → false ≡ image_fits p image
-      cell_invalid k = sym (told k)
+    pub cell_invalid : d ≡ Invalid → false ≡ image_fits p image
+    cell_invalid q = sym (rw q at told)

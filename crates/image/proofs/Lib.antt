@@ -2,4 +2,3 @@ pub mod FitLaws
 pub mod FormLaws
 pub mod ImageLaws
 pub mod RowLaws
-pub mod WordLaws

@@ -4,7 +4,7 @@ ghost use Rattle.model.specs.Parameters.{Fit};
 ghost use Rattle.model.specs.Images.{all_zero, image_fits};
 
 use crate::decode::{Decoded, decode};
-use crate::forms::form_table;
+use crate::forms::FormTable;
 use bounds::limits::Limits;
 use model::Parameters;
 
@@ -15,15 +15,16 @@ fn all_zero(words: &[u32]) -> bool
     words.iter().all(|&w| w == 0)
 }
 
-// Each cell is an instruction or empty, and only empty cells follow an empty one.
+// Each cell is an instruction or empty, and only empty cells follow an empty one. Of `p`, since the checks that call this have no Limits yet.
 pub fn image_fits(p: Parameters, image: &[u32]) -> bool
     requires fit { Fit p }
     requires image_len { length image.now ≡ 4 * p.t }
     ensures { result ≡ image_fits p image.now }
 {
     let limits = Limits::new(p);
-    let forms = form_table();
-    for (at, cell) in image.chunks_exact(4).enumerate() {
+    let forms = FormTable::new();
+    let (cells, _) = image.as_chunks::<4>();
+    for (at, cell) in cells.iter().enumerate() {
         match decode(cell, limits, &forms) {
             Decoded::Runs(_) => {}
             Decoded::Empty => return all_zero(&image[4 * at..]),

@@ -2,11 +2,10 @@
 ghost use Rattle.std.specs.Prelude.{◌≡◌, ◌≤◌, length};
 ghost use Rattle.model.specs.Words.{cell_of};
 ghost use Rattle.model.specs.Images.{register_fits, word_fits, cell_fits};
-ghost use Rattle.image.specs.Forms.{form_table};
 ghost use Rattle.image.specs.Decode.{instruction_of, cell_from, argument_word_fits, argument_words_fit, decoded_of};
 
 use crate::forms::{
-    INSTRUCTIONS, allows_direct, allows_number, allows_register, allows_special, forms_of,
+    FormTable, INSTRUCTIONS, allows_direct, allows_number, allows_register, allows_special,
 };
 use crate::kinds::Kind;
 use crate::words::{content, kind, number};
@@ -16,7 +15,7 @@ use model::Parameters;
 use model::words::{IAR, SHR};
 
 // An instruction's number and the words of its arguments; an absent one is 0. The number is no enum, since it is a word of the image, which the
-// machine takes apart anew at each step: interpreters that read words through enums ran at less than half the speed.
+// machine takes apart anew at each step: with an enum made of it there (see `choose` of steps) loops run 2 to 6 % more instructions.
 #[derive(Clone, Copy, PartialEq, Eq)]
 pub struct Instruction {
     pub number: u32,
@@ -43,7 +42,7 @@ pub enum Decoded {
     Invalid,
 }
 
-// The four words of a cell.
+// The four words of a cell. No array, since the engine lends a part of the image.
 pub fn read_cell(cell: &[u32]) -> Instruction
     requires { length cell.now ≡ 4 }
     ensures { result ≡ instruction_of (cell_of cell.now) }
@@ -101,21 +100,18 @@ fn arguments_fit(limits: Limits, forms: u32, i: Instruction) -> bool
 
 // An instruction's number, and arguments as its row has them.
 #[tactic(auto, using(crate::proofs::FitLaws::low_head, crate::proofs::FitLaws::high_head))]
-fn cell_fits(limits: Limits, forms: &[u32], i: Instruction) -> bool
-    requires { forms.now ≡ form_table }
+fn cell_fits(limits: Limits, forms: &FormTable, i: Instruction) -> bool
     ensures { result ≡ cell_fits limits.parameters (cell_from i) }
 {
     match i.number {
-        1..=INSTRUCTIONS => arguments_fit(limits, forms_of(forms, i.number), i),
+        1..=INSTRUCTIONS => arguments_fit(limits, forms.forms_of(i.number), i),
         _ => false,
     }
 }
 
-// What a cell is. `forms` is the table of forms.
+// What a cell is.
 #[tactic(auto, unfolding(crate::specs::Decode::decoded_of))]
-pub fn decode(cell: &[u32], limits: Limits, forms: &[u32]) -> Decoded
-    requires cell_len { length cell.now ≡ 4 }
-    requires forms_value { forms.now ≡ form_table }
+pub fn decode(cell: &[u32; 4], limits: Limits, forms: &FormTable) -> Decoded
     ensures { result ≡ decoded_of limits.parameters (cell_of cell.now) }
 {
     let i = read_cell(cell);

@@ -1,4 +1,4 @@
-// The forms of the instructions' arguments, as a table that a call makes once and lends.
+// The forms of the instructions' arguments.
 ghost use Rattle.std.specs.Prelude.{◌≡◌, ◌≤◌, ℕ, ℤ};
 ghost use Rattle.model.specs.Instructions.{instruction_count, row_of};
 ghost use Rattle.model.specs.Load.{allows};
@@ -12,7 +12,7 @@ pub const INSTRUCTIONS: u32 = 54;
 pub const NOP: u32 = 44;
 
 // By number, from 1 on: the form of the first argument, 16 times that of the second and 256 times that of the third. An absent one has 0.
-// One number a row, since each call has the table on its stack.
+// One number a row: three bytes would be widened at each use, and behind a faulty argument the forms left would be counted byte by byte.
 const FORMS: [u32; INSTRUCTIONS as usize] = [
     0x000, 0x000, 0x000, 0x000, 0x005, 0x007, 0x057, 0x085, 0x007, 0x005, 0x001, 0x001, 0x013,
     0x133, 0x133, 0x133, 0x133, 0x133, 0x013, 0x013, 0x133, 0x133, 0x133, 0x133, 0x133, 0x081,
@@ -21,20 +21,25 @@ const FORMS: [u32; INSTRUCTIONS as usize] = [
     0x001, 0x001,
 ];
 
-// The table.
-pub fn form_table() -> [u32; INSTRUCTIONS as usize]
-    ensures { result ≡ form_table }
-{
-    FORMS
+// The table, which a call makes once and lends.
+#[derive(Drop)]
+pub struct FormTable {
+    forms: [u32; INSTRUCTIONS as usize],
+    ghost value: { forms ≡ form_table },
 }
 
-// The forms of an instruction.
-pub fn forms_of(table: &[u32], number: u32) -> u32
-    requires { (table.now ≡ form_table) × (1 ≤ number) × (number ≤ instruction_count) }
-    ensures { result ≡ packed (row_of number).forms }
-{
-    let i = (number - 1) as usize;
-    table[i]
+impl FormTable {
+    pub fn new() -> Self {
+        FormTable { forms: FORMS }
+    }
+
+    // The forms of an instruction.
+    pub fn forms_of(&self, number: u32) -> u32
+        requires { (1 ≤ number) × (number ≤ instruction_count) }
+        ensures { result ≡ packed (row_of number).forms }
+    {
+        self.forms[number as usize - 1]
+    }
 }
 
 // A form is a sum of 1, 2, 4 and 8, for what it allows. One function that is given the bit would be no plainer: each contract here names its argument.

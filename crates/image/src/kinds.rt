@@ -11,11 +11,11 @@ pub enum Kind {
     Number,
 }
 
-impl Kind {
-    // The number that a word has in its top two bits.
-    pub fn number(self) -> u32
-        ensures { result ≡ number_of_kind self }
-    {
-        self as u32
+// The number that a word has in its top two bits.
+impl From<Kind> for u32 {
+    ghost from_gives = { λ k n. n ≡ number_of_kind k };
+
+    fn from(kind: Kind) -> u32 {
+        kind as u32
     }
 }

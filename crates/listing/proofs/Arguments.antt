@@ -4,16 +4,15 @@ use mathlib.Core.Path.{◌≡◌, refl, ap, ◌∙◌}
 use mathlib.Core.Bool.{Bool, true, false, ◌&&◌, cond}
 use mathlib.Core.List.{List, [], ◌∷◌}
 use mathlib.Core.Option.{Option, none, some}
-use native.Mathlib.Decide.{ℕ_discrete}
 use native.Mathlib.Omega.{arith}
-use lib.Dec.{eqb, ltb}
+use lib.Dec.{eqb}
 use lib.IntN.{ℤ, pos, negsuc}
 use lib.Signed.{mag}
 use borrow.Author.Tests.{eqb-true, ne_eqb, ltb-true, lt-ltb, le-ltb, lt-leb}
 use Rattle.model.specs.declared.Parameters.{Parameters}
 use Rattle.model.specs.Parameters.{between, limit}
 use Rattle.model.specs.Words.{Argument, register, special, direct, literal, argument_word, word_of, kind_of, content_of, number_bits, number_of, register_kind, direct_kind, number_kind, iar_number, ircr_number, shr_number}
-use Rattle.model.specs.Numbers.{bytes, upper, natural, mapped, number, decimal}
+use Rattle.model.specs.Numbers.{upper, natural, mapped, number, decimal}
 use Rattle.model.specs.Load.{same_word, special_of, after_d, plain, argument, allows, is_within, fine, fault, checked_argument}
 use Rattle.model.specs.Images.{word_fits}
 use Rattle.model.proofs.Fits.{both, and_both, by_cond, is-between, Limits, limit-low, limit-high}
@@ -21,6 +20,7 @@ use Rattle.model.proofs.Decimals.{Leading, Plain, is_zero, is_positive, is_negat
 use Rattle.model.proofs.Ranges.{range-mag}
 use Rattle.listing.specs.Listing.{register_of, argument_of, special_text, argument_text}
 use Rattle.listing.proofs.Bytes.{is_word, word-plain, decimal-word}
+use Rattle.std.proofs.Common.{rules}
 
 -- A special register is one of three.
 abbrev Named : Argument → Type 0
@@ -60,18 +60,9 @@ plain-argument is_zero = number-argument 48 [] (omega arith)
 plain-argument (is_positive {s} l) = leading-argument s l
 plain-argument (is_negative {s} l) = number-argument 45 s (omega arith)
 
--- What holds of 256, 257 and 258.
-one_of_three : (P : ℕ → Type 0) → P iar_number → P ircr_number → P shr_number → (r : ℕ) → between iar_number shr_number r ≡ true → P r
-one_of_three P a b c r h = go (ℕ_discrete r iar_number) (ℕ_discrete r ircr_number)
-  where
-    go : Dec (r ≡ iar_number) → Dec (r ≡ ircr_number) → P r
-    go (yes e) d = rw e a
-    go (no n) (yes e) = rw e b
-    go (no n) (no m) = let k = is-between iar_number shr_number r h in let e : r ≡ shr_number = omega arith in rw e c
-
 special-back : (r : ℕ) → between iar_number shr_number r ≡ true → argument (special_text r) ≡ some (special r)
 unfolding argument special_of same_word
-special-back = one_of_three (λ r. argument (special_text r) ≡ some (special r)) refl refl refl
+special-back = search rules
 
 argument-back : (a : Argument) → Named a → argument (argument_text a) ≡ some a
 unfolding argument plain special_of same_word
@@ -89,13 +80,6 @@ text-word (direct d) = word-plain (decimal (pos d)) (decimal-word (pos d))
 text-word (literal z) = decimal-word z
 
 -- FROM A WORD THAT FITS
-bits_back : (v : ℕ) → v < 2 ^ 30 → number_bits (number_of v) ≡ v
-bits_back v h = go (ltb v (2 ^ 29)) refl
-  where
-    go : (b : Bool) → ltb v (2 ^ 29) ≡ b → number_bits (cond b (pos v) (negsuc (2 ^ 30 - suc v))) ≡ v
-    go true e = refl
-    go false e = omega arith
-
 -- Neither 13 nor 14.
 abbrev is_accepted : Parameters → (form : ℕ) → Argument → Bool
 is_accepted p form a = allows form a && is_within p a
@@ -119,8 +103,7 @@ module _ (p : Parameters) (form w : ℕ) where
 
   literal_suits : kind_of w ≡ number_kind → is_accepted p form (literal (number_of (content_of w))) ≡ true →
       Suits p form w (literal (number_of (content_of w)))
-  literal_suits k h =
-      record { named = tt; accepted = h; word = ap (word_of number_kind) (bits_back (content_of w) (omega arith)) ∙ omega arith }
+  literal_suits k h = search rules
 
   word_suits : word_fits p form w ≡ true → Suits p form w (argument_of w)
   unfolding word_fits
@@ -177,16 +160,7 @@ plain-named (b ∷ s) = go (eqb (upper b) 82) (eqb (upper b) 68)
 
 special-number : (w : List ℕ) → eqb (special_of w) 0 ≡ false → between iar_number shr_number (special_of w) ≡ true
 unfolding special_of
-special-number w = go (same_word w (bytes "IAR")) (same_word w (bytes "IRCR")) (same_word w (bytes "SHR"))
-  where
-    number : (x y z : Bool) → ℕ
-    number x y z = elim x [ true ↦ iar_number | false ↦ elim y [ true ↦ ircr_number | false ↦ elim z [ true ↦ shr_number | false ↦ 0 ] ] ]
-
-    go : (x y z : Bool) → eqb (number x y z) 0 ≡ false → between iar_number shr_number (number x y z) ≡ true
-    go true y z h = refl
-    go false true z h = refl
-    go false false true h = refl
-    go false false false h = cc
+special-number w = search rules
 
 argument-named : (w : List ℕ) → NamedIn (argument w)
 unfolding argument

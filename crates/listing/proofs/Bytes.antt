@@ -7,12 +7,13 @@ use native.Mathlib.Omega.{arith}
 use lib.Dec.{eqb, ltb}
 use lib.IntN.{ℤ}
 use lib.ListN.{length, get_or}
-use borrow.Author.Tests.{not-true, ltb-true, lt-ltb, ne_eqb}
+use borrow.Author.Tests.{ltb-true}
 use Rattle.model.specs.Numbers.{decimal}
 use Rattle.model.specs.Load.{lines_from, lines, is_comment, is_separator, words_from, words}
 use Rattle.model.proofs.Fits.{both, and_both, is-between}
 use Rattle.model.proofs.Decimals.{AllDigits, Leading, Plain, is_zero, is_positive, is_negative, decimal-plain}
 use Rattle.listing.specs.Listing.{spaced}
+use Rattle.std.proofs.Common.{rules}
 
 -- CLASSES OF BYTES
 -- A byte of a text.
@@ -54,7 +55,7 @@ all-bytes (b ∷ s) h zero l = ltb-true b 256 (both (is_byte b) (all is_byte s) 
 all-bytes (b ∷ s) h (suc i) l = all-bytes s (both (is_byte b) (all is_byte s) h).1 i (omega arith)
 
 plain_inner : (b : ℕ) → is_plain b ≡ true → is_inner b ≡ true
-plain_inner b h = (both (not (is_comment b) && not (is_separator b)) (is_inner b) h).1
+plain_inner b h = search rules
 
 pub inner_byte : (s : List ℕ) → all is_inner s ≡ true → all is_byte s ≡ true
 inner_byte s h = all_weaken is_inner is_byte (λ b k. (both (not (eqb b 10)) (is_byte b) k).1) s h
@@ -66,7 +67,7 @@ word-plain (b ∷ s) h = h
 -- LINES
 line_byte : (u : List ℕ) (b : ℕ) (s : List ℕ) → is_inner b ≡ true → lines_from u (b ∷ s) ≡ lines_from (u ++ (b ∷ [])) s
 unfolding lines_from
-line_byte u b s h = simp (lines_from, not-true (eqb b 10) (both (not (eqb b 10)) (is_byte b) h).0)
+line_byte u b s h = search rules
 
 line-bytes : (u l r : List ℕ) → all is_inner l ≡ true → lines_from u (l ++ r) ≡ lines_from (u ++ l) r
 line-bytes u [] r h = ap (λ (x : List ℕ). lines_from x r) (sym (append-nil u))
@@ -84,10 +85,7 @@ line-back l r h = line-bytes [] l (10 ∷ r) h
 -- WORDS
 word_byte : (u : List ℕ) (b : ℕ) (s : List ℕ) → is_plain b ≡ true → words_from u (b ∷ s) ≡ words_from (u ++ (b ∷ [])) s
 unfolding words_from
-word_byte u b s h =
-    let k = both (not (is_comment b) && not (is_separator b)) (is_inner b) h in
-    let g = both (not (is_comment b)) (not (is_separator b)) k.0 in
-    simp (words_from, not-true (is_comment b) g.0, not-true (is_separator b) g.1)
+word_byte u b s h = search rules
 
 word_bytes : (u w r : List ℕ) → all is_plain w ≡ true → words_from u (w ++ r) ≡ words_from (u ++ w) r
 word_bytes u [] r h = ap (λ (x : List ℕ). words_from x r) (sym (append-nil u))
@@ -129,20 +127,7 @@ words_inner (w ∷ v ∷ ws) h =
 
 -- DECIMALS
 digit-plain : (b : ℕ) → 48 ≤ b → b ≤ 57 → is_plain b ≡ true
-digit-plain b l h =
-    let other : (k : ℕ) → ¬ (b ≡ k) → eqb b k ≡ false = ne_eqb b in
-    let small : b < 256 = omega arith in
-    simp (
-      other 35 (λ e. omega arith),
-      other 47 (λ e. omega arith),
-      other 59 (λ e. omega arith),
-      other 9 (λ e. omega arith),
-      other 13 (λ e. omega arith),
-      other 32 (λ e. omega arith),
-      other 44 (λ e. omega arith),
-      other 10 (λ e. omega arith),
-      lt-ltb b 256 small,
-    )
+digit-plain b l h = search rules
 
 digits-plain : (s : List ℕ) → AllDigits s → all is_plain s ≡ true
 digits-plain [] d = refl

@@ -6,7 +6,7 @@ use mathlib.Core.List.{List, [], ◌∷◌, ◌++◌, map, append_assoc, append-
 use native.Mathlib.Omega.{arith}
 use lib.Dec.{eqb}
 use lib.ListN.{length, get_or, take}
-use borrow.Author.Tests.{eqb-true, eqb-false, eq-eqb, ne_eqb, le-leb}
+use borrow.Author.Tests.{eqb-true, eqb-false, le-leb}
 use Rattle.model.specs.declared.Parameters.{Parameters}
 use Rattle.model.specs.Parameters.{between}
 use Rattle.model.specs.Words.{Cell, cell_with, is_empty}
@@ -19,6 +19,7 @@ use Rattle.listing.proofs.Bytes.{are_words, words_back}
 use Rattle.model.proofs.Rows.{lookup-number}
 use Rattle.listing.proofs.Rows.{name-word, three-forms, name_back}
 use Rattle.listing.proofs.Arguments.{text-word, word_back, checked-fits}
+use Rattle.std.proofs.Common.{rules}
 
 -- The text of an image word.
 abbrev text : ℕ → List ℕ
@@ -85,7 +86,7 @@ module _ (p : Parameters) where
   good-line : (n : ℕ) (w : List ℕ) (ws : List (List ℕ)) → lookup w ≡ n → 1 ≤ n → length ws ≡ length (row_of n).forms →
       line_cell p (w ∷ ws) ≡ headed n (arguments_from p [] (row_of n).forms ws)
   unfolding line_cell
-  good-line n w ws e l h = simp (line_cell, e, ne_eqb n 0 (λ z. omega arith), eq-eqb _ _ h)
+  good-line n w ws e l h = search rules
 
   line-cell : (c : Cell) → cell_fits p c ≡ true → line_cell p (instruction_words c) ≡ fine c
   unfolding cell_fits
@@ -108,10 +109,7 @@ module _ (p : Parameters) where
   -- TO A CELL THAT FITS
   pub full-cell : (c : Cell) → cell_fits p c ≡ true → is_empty c ≡ false
   unfolding cell_fits
-  full-cell c h =
-      let f = both (between 1 (length rows) c.head) _ h in
-      let n = is-between 1 (length rows) c.head f.0 in
-      simp (ne_eqb c.head 0 (λ e. omega arith))
+  full-cell c h = search rules
 
   -- What is read at these places, behind xs.
   record Read (forms xs ys : List ℕ) : Type 0 where

@@ -1,23 +1,21 @@
 -- An argument by its first letters, and its word at a place. Assumes nothing.
-use Prim.Native.Nat.{ℕ, suc, ◌+◌, ◌^◌, ◌≤◌, ◌<◌, min}
-use mathlib.Core.Path.{◌≡◌, refl, sym, ap, ◌∙◌}
-use mathlib.Core.Bool.{Bool, true, false, cond, true≢false}
+use Prim.Native.Nat.{ℕ, ◌+◌, ◌^◌, ◌≤◌, ◌<◌, min}
+use mathlib.Core.Path.{◌≡◌, refl, ap, ◌∙◌}
+use mathlib.Core.Bool.{Bool, true, false, cond}
 use mathlib.Core.List.{List, [], ◌∷◌}
 use mathlib.Core.Option.{Option, none, some}
 use native.Mathlib.Decide.{dec_lt}
 use native.Mathlib.Omega.{arith}
 use lib.Dec.{ltb}
-use lib.IntN.{ℤ, pos, negsuc, nat_abs, ◌+ℤ◌}
+use lib.IntN.{ℤ}
 use lib.ListN.{length, get_or, drop}
 use lib.Seq.{drop-cons}
-use lib.Signed.{mag, lt_z}
-use borrow.Author.Tests.{eq-eqb, ne_eqb, lt-ltb, le-ltb, ltb-true}
+use borrow.Author.Tests.{eq-eqb, ne_eqb, lt-ltb, le-ltb}
 use Rattle.model.specs.declared.Parameters.{Parameters}
 use Rattle.model.specs.Parameters.{limit, max_cells, in_range}
 use Rattle.model.specs.Numbers.{bytes, upper, mapped, natural, number}
 use Rattle.model.specs.Words.{Argument, register, special, direct, literal, argument_word, register_kind, direct_kind, number_kind, iar_number, ircr_number, shr_number, word_of, number_bits}
 use Rattle.model.specs.Load.{same_word, special_of, after_d, plain, argument, Checked, fine, fault, allows, is_within, checked_argument}
-use Rattle.bounds.proofs.Integers.{sub_ge}
 use Rattle.std.proofs.Common.{Result, Ok, Err}
 use Rattle.std.proofs.Common as rust
 use Rattle.std.specs.Option.{option_map}
@@ -60,9 +58,8 @@ first-of false true c r e = rw e (refl, omega arith)
 first-of false false true r e = rw e (refl, omega arith)
 first-of false false false r e = rw e refl
 
-pub special-found : (w : List ℕ) {r o : rust.Option ℕ} → r ≡ position (same_word w) (bytes "IAR" ∷ bytes "IRCR" ∷ bytes "SHR" ∷ []) → r ≡ o →
-    Finds (option_map (λ (i : ℕ). iar_number + i) o) (special_of w)
-special-found w e q = rw (special_choice w) (first-of _ _ _ _ (sym q ∙ e))
+pub special-found : (w : List ℕ) → Finds (option_map (λ (i : ℕ). iar_number + i) (position (same_word w) (bytes "IAR" ∷ bytes "IRCR" ∷ bytes "SHR" ∷ []))) (special_of w)
+special-found w = rw (special_choice w) (first-of _ _ _ _ refl)
 
 no_special : (b : ℕ) (s : List ℕ) → ¬ (upper b ≡ 73) → ¬ (upper b ≡ 83) → special_of (b ∷ s) ≡ 0
 unfolding same_word
@@ -153,12 +150,3 @@ module _ (p : Parameters) (form : ℕ) where
   pub number_read : ((z : ℤ) → allows form (literal z) ≡ true) → {m : ℕ} → m ≡ limit p.k → (o : Option ℤ) {r : Result ℤ NumberError} → r ≡ reading_of m o →
       numbered r ≡ checked_argument p form (mapped literal o)
   number_read h e o q = ap numbered q ∙ ap (λ (m : ℕ). numbered (reading_of m o)) e ∙ number-checked h o
-
--- The word of a number, as the code works it out.
-pub word_negative : (z : ℤ) → lt_z z (pos 0) ≡ true → mag z < 2 ^ 29 → pos (2 ^ 32) +ℤ z ≡ pos (word_of number_kind (number_bits z))
-word_negative (pos n) t h = let l : n < 0 = ltb-true n 0 t in absurd (omega arith)
-word_negative (negsuc n) t h = sub_ge (2 ^ 32) (suc n) (omega arith) ∙ ap pos (omega arith)
-
-pub word-positive : (z : ℤ) → lt_z z (pos 0) ≡ false → mag z < 2 ^ 29 → (z ≡ pos (nat_abs z)) × (word_of number_kind 0 + nat_abs z ≡ word_of number_kind (number_bits z))
-word-positive (pos n) t h = (refl, omega arith)
-word-positive (negsuc n) t h = absurd (true≢false t)

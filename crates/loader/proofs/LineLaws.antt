@@ -1,26 +1,24 @@
 -- A line's arguments one by one, as the loop that reads them meets them, and their packed forms. Assumes nothing.
 use Prim.Native.Nat.compare
-use Prim.Native.Nat.{ℕ, zero, suc, ◌+◌, ◌*◌, ◌-◌, ◌/◌, ◌%◌, ◌≤◌, ◌<◌}
+use Prim.Native.Nat.{ℕ, zero, suc, ◌+◌, ◌-◌, ◌/◌, ◌%◌, ◌^◌, ◌≤◌, ◌<◌}
 use mathlib.Core.Path.{◌≡◌, refl, sym, ap, ◌∙◌}
 use mathlib.Core.Bool.{Bool, true, false, cond}
 use mathlib.Core.List.{List, [], ◌∷◌, ◌++◌}
 use native.Mathlib.Omega.{arith}
 use lib.Dec.{compare_is_eq, eqb, leb}
-use lib.ListN.{length, get_or, set, drop, replicate, length-append}
-use lib.Seq.{set_at, append_snoc}
-use borrow.Author.Tests.{ne_eqb, lt-ltb, le-ltb, leb-true}
+use native.Mathlib.Decide.{dec_lt}
+use lib.ListN.{length, get_or, set, take}
+use Rattle.std.proofs.lemmas.List.{take_more_set, take_all}
+use borrow.Author.Tests.{eq-eqb, ne_eqb, lt-ltb, le-ltb, leb-true}
 use Rattle.model.specs.declared.Parameters.{Parameters}
 use Rattle.model.specs.Parameters.{between}
 use Rattle.model.specs.Words.{Cell, cell_with}
 use Rattle.model.specs.Instructions.{nop_number, row_of}
-use Rattle.model.specs.Load.{Checked, fine, fault, argument, checked_argument, arguments_from, headed, words, lookup, line_cell}
+use Rattle.model.specs.Load.{Checked, fine, fault, argument, checked_argument, arguments_from, headed, lookup, line_cell}
 use Rattle.model.proofs.Fits.{both, is-between}
 use Rattle.image.specs.Forms.{packed}
 use Rattle.image.proofs.FitLaws.{are_packed, rows-packable}
-use Rattle.text.specs.Parts.{part}
-use Rattle.text.specs.Words.{NextWord}
-use Rattle.text.proofs.Walks.{first_word}
-use Rattle.loader.specs.Lines.{form_count, counted}
+use Rattle.loader.specs.Lines.{form_count, unpacked_few, unpacked, counted}
 
 -- PACKED FORMS
 -- What the first form's four bits are, and the rest.
@@ -31,29 +29,61 @@ packed-first f fs h =
     let b = is-between 1 15 f (both (between 1 15 f) (are_packed fs) h).0 in
     (omega arith, omega arith, omega arith)
 
-packed_none : packed [] ≡ 0
-unfolding packed
-packed_none = refl
+-- A place more than the forms need.
+more-places : (k n : ℕ) → n < 16 ^ k → unpacked_few (suc k) n ≡ unpacked_few k n
+unfolding unpacked_few
+more-places zero n h = simp (unpacked_few, eq-eqb n 0 (omega arith))
+more-places (suc k) n h = ap (λ (fs : List ℕ). cond (eqb n 0) [] (n % 16 ∷ fs)) (more-places k (n / 16) (omega (arith, h)))
 
-count-forms : (fs : List ℕ) → are_packed fs ≡ true → length fs ≤ 3 → form_count (packed fs) ≡ length fs
+unpacked-first : (n : ℕ) → ¬ (n ≡ 0) → n < 16 ^ 3 → unpacked n ≡ n % 16 ∷ unpacked (n / 16)
+unfolding unpacked_few
+unpacked-first n h l = simp (unpacked_few, ne_eqb n 0 h) (ap (λ (fs : List ℕ). n % 16 ∷ fs) (sym (more-places 2 (n / 16) (omega arith))))
+
+unpacked_none : unpacked 0 ≡ []
+unfolding unpacked_few
+unpacked_none = refl
+
+unpacked-packed : (k : ℕ) (fs : List ℕ) → are_packed fs ≡ true → length fs ≤ k → unpacked_few k (packed fs) ≡ fs
+unfolding unpacked_few packed
+unpacked-packed zero [] h l = refl
+unpacked-packed (suc k) [] h l = refl
+unpacked-packed zero (f ∷ fs) h l = absurd (omega arith)
+unpacked-packed (suc k) (f ∷ fs) h l =
+    let e = packed-first f fs h in
+    let rest = unpacked-packed k fs (both (between 1 15 f) (are_packed fs) h).1 (omega arith) in
+    simp (unpacked_few, ne_eqb (packed (f ∷ fs)) 0 (λ q. absurd (omega (arith, e.0)))) (rw (e.1, e.2, rest) refl)
+
+power : (k : ℕ) → 0 < 16 ^ k
+power zero = omega arith
+power (suc k) = omega (arith, power k)
+
+packed-below : (k : ℕ) (fs : List ℕ) → are_packed fs ≡ true → length fs ≤ k → packed fs < 16 ^ k
 unfolding packed
-count-forms [] h l = refl
-count-forms (f ∷ []) h l =
-    let b = is-between 1 15 f (both (between 1 15 f) true h).0 in
-    simp (ne_eqb (f + 16 * 0) 0 (λ e. absurd (omega arith)), lt-ltb (f + 16 * 0) 16 (omega arith))
-count-forms (f ∷ g ∷ []) h l =
-    let k = both (between 1 15 f) (are_packed (g ∷ [])) h in
-    let b = is-between 1 15 f k.0 in
-    let d = is-between 1 15 g (both (between 1 15 g) true k.1).0 in
-    let n = f + 16 * (g + 16 * 0) in
-    simp (ne_eqb n 0 (λ e. absurd (omega arith)), le-ltb n 16 (omega arith), lt-ltb n 256 (omega arith))
-count-forms (f ∷ g ∷ i ∷ []) h l =
-    let k = both (between 1 15 f) (are_packed (g ∷ i ∷ [])) h in
-    let j = both (between 1 15 g) (are_packed (i ∷ [])) k.1 in
-    let d = is-between 1 15 i (both (between 1 15 i) true j.1).0 in
-    let n = f + 16 * (g + 16 * (i + 16 * 0)) in
-    simp (ne_eqb n 0 (λ e. absurd (omega arith)), le-ltb n 16 (omega arith), le-ltb n 256 (omega arith))
-count-forms (f ∷ g ∷ i ∷ j ∷ fs) h l = absurd (omega arith)
+packed-below k [] h l = power k
+packed-below zero (f ∷ fs) h l = absurd (omega arith)
+packed-below (suc k) (f ∷ fs) h l =
+    let j = both (between 1 15 f) (are_packed fs) h in
+    let b = is-between 1 15 f j.0 in
+    omega (arith, packed-below k fs j.1 (omega arith))
+
+-- The forms of a row, packed and taken apart again.
+pub forms_below : (n : ℕ) → packed (row_of n).forms < 16 ^ 3
+forms_below n = let k = both (leb (length (row_of n).forms) 3) (are_packed (row_of n).forms) (rows-packable n) in packed-below 3 _ k.1 (leb-true (length (row_of n).forms) 3 k.0)
+
+pub forms-unpacked : (n : ℕ) → unpacked (packed (row_of n).forms) ≡ (row_of n).forms
+forms-unpacked n = let k = both (leb (length (row_of n).forms) 3) (are_packed (row_of n).forms) (rows-packable n) in unpacked-packed 3 _ k.1 (leb-true (length (row_of n).forms) 3 k.0)
+
+count-forms : (n : ℕ) → n < 16 ^ 3 → form_count n ≡ length (unpacked n)
+unfolding unpacked_few
+count-forms n h = go (dec_lt n 1) (dec_lt n 16) (dec_lt n 256)
+  where
+    go : Dec (n < 1) → Dec (n < 16) → Dec (n < 256) → form_count n ≡ length (unpacked n)
+    go (yes a) b c = simp (unpacked_few, eq-eqb n 0 (omega arith))
+    go (no a) (yes b) c = simp (unpacked_few, ne_eqb n 0 (λ e. omega arith), lt-ltb n 16 b, eq-eqb (n / 16) 0 (omega arith))
+    go (no a) (no b) (yes c) =
+        simp (unpacked_few, ne_eqb n 0 (λ e. omega arith), le-ltb n 16 (omega arith), lt-ltb n 256 c, ne_eqb (n / 16) 0 (λ e. omega arith), eq-eqb (n / 16 / 16) 0 (omega arith))
+    go (no a) (no b) (no c) =
+        simp (unpacked_few, ne_eqb n 0 (λ e. omega arith), le-ltb n 16 (omega arith), le-ltb n 256 (omega arith), ne_eqb (n / 16) 0 (λ e. omega arith), ne_eqb (n / 16 / 16) 0 (λ e. omega arith))
 
 -- COUNTED
 module _ (p : Parameters) (n : ℕ) (xs : List ℕ) where
@@ -111,147 +141,78 @@ line_known p w ws h = simp (line_cell, ne_eqb _ _ h) (go (eqb (length ws) (lengt
     go true = refl
     go false = refl
 
--- THE LOOP
+-- AN ARGUMENT
 -- Zeros behind a list are what is read there anyway.
-get_d-zeros : (xs : List ℕ) (k j : ℕ) → get_or (xs ++ replicate k 0) j 0 ≡ get_or xs j 0
-get_d-zeros [] zero j = refl
-get_d-zeros [] (suc k) zero = refl
-get_d-zeros [] (suc k) (suc j) = get_d-zeros [] k j
-get_d-zeros (x ∷ xs) k zero = refl
-get_d-zeros (x ∷ xs) k (suc j) = get_d-zeros xs k j
+get_d-zeros : (xs : List ℕ) (j : ℕ) → get_or (xs ++ (0 ∷ [])) j 0 ≡ get_or xs j 0
+get_d-zeros [] zero = refl
+get_d-zeros [] (suc j) = refl
+get_d-zeros (x ∷ xs) zero = refl
+get_d-zeros (x ∷ xs) (suc j) = get_d-zeros xs j
 
--- The line's cell is that of the arguments `done`, which stand in their places, and of the words from `at` on at the forms that are left.
-pub record ArgumentsInvariant (p : Parameters) (n : ℕ) (l : List ℕ) (from : ℕ) (slots : List ℕ) (at rest i : ℕ) : Type 0 where
-  pub done : List ℕ
-  pub forms : List ℕ
-  pub are : are_packed forms ≡ true
-  pub few : i + length forms ≤ 3
-  pub packs : rest ≡ packed forms
-  pub inside : at ≤ length l
-  pub count : length done ≡ i
-  pub stored : slots ≡ done ++ replicate (3 - i) 0
-  pub same : counted p n [] (row_of n).forms (words (drop from l)) ≡ counted p n done forms (words (drop at l))
+module _ (p : Parameters) {forms : ℕ} (few : forms < 16 ^ 3) (n : ℕ) (xs : List ℕ) (ws : List (List ℕ)) where
+  pub argument_absent : forms ≡ 0 → counted p n xs (unpacked forms) ws ≡ counted p n (xs ++ (0 ∷ [])) (unpacked (forms / 16)) ws
+  unfolding counted arguments_from
+  argument_absent e = rw (e, unpacked_none, get_d-zeros xs 0, get_d-zeros xs 1, get_d-zeros xs 2) refl
 
-module _ (p : Parameters) (n : ℕ) (l : List ℕ) (from : ℕ) where
-  pub at-start : (rest : ℕ) → rest ≡ packed (row_of n).forms → from ≤ length l → ArgumentsInvariant p n l from (replicate 3 0) from rest 0
-  at-start rest e h =
-      let k = both (leb (length (row_of n).forms) 3) (are_packed (row_of n).forms) (rows-packable n) in
-      record {
-        done = [];
-        forms = (row_of n).forms;
-        are = k.1;
-        few = omega (arith, leb-true (length (row_of n).forms) 3 k.0);
-        packs = e;
-        inside = h;
-        count = refl;
-        stored = refl;
-        same = refl;
-      }
+  module _ (some : ¬ (forms ≡ 0)) where
+    pub argument-missing : ws ≡ [] → counted p n xs (unpacked forms) ws ≡ fault 12
+    argument-missing e = rw (e, unpacked-first forms some few) (counted_none p n xs _ _)
 
-  module _ {slots : List ℕ} {at rest i : ℕ} (s : ArgumentsInvariant p n l from slots at rest i) where
-    -- Where forms are left, there is a first one.
-    record Left : Type 0 where
-      first : ℕ
-      others : List ℕ
-      is : s.forms ≡ first ∷ others
+    module _ {w : List ℕ} {rest : List (List ℕ)} (is : ws ≡ w ∷ rest) where
+      first : counted p n xs (unpacked forms) ws ≡ counted p n xs (forms % 16 ∷ unpacked (forms / 16)) (w ∷ rest)
+      first = rw (is, unpacked-first forms some few) refl
 
-    left : ¬ (rest ≡ 0) → Left
-    left h = go s.forms refl
-      where
-        go : (fs : List ℕ) → s.forms ≡ fs → Left
-        go [] e = absurd (h (s.packs ∙ ap packed e ∙ packed_none))
-        go (f ∷ fs) e = record { first = f; others = fs; is = e }
+      pub argument-fine : (x : ℕ) → checked_argument p (forms % 16) (argument w) ≡ fine x → counted p n xs (unpacked forms) ws ≡ counted p n (xs ++ (x ∷ [])) (unpacked (forms / 16)) rest
+      argument-fine x e = first ∙ counted-word p n xs _ _ w rest x e
 
-    pub slot_free : ¬ (rest ≡ 0) → i < 3
-    slot_free h = let f = left h in omega (arith, s.few, ap length f.is)
+      pub argument-fault : (k : ℕ) → checked_argument p (forms % 16) (argument w) ≡ fault k →
+          counted p n xs (unpacked forms) ws ≡ cond (eqb (length rest) (form_count (forms / 16))) (fault k) (fault 12)
+      argument-fault k e =
+          first
+          ∙ counted-fault p n xs _ _ w rest k e
+          ∙ ap (λ (m : ℕ). cond (eqb (length rest) m) (fault k) (fault 12)) (sym (count-forms (forms / 16) (omega arith)))
 
-    -- No word for a form, or a word for none.
-    pub too_few : {a b : ℕ} → ¬ (rest ≡ 0) → NextWord l at a b → a ≡ b → counted p n [] (row_of n).forms (words (drop from l)) ≡ fault 12
-    too_few h w e =
-        let f = left h in
-        s.same ∙ ap (counted p n s.done s.forms) (w.none e) ∙ ap (λ (fs : List ℕ). counted p n s.done fs []) f.is ∙ counted_none p n _ _ _
+-- ALL OF THEM
+power-few : (k : ℕ) → k ≤ 3 → 16 ^ k ≤ 16 ^ 3
+power-few zero h = omega arith
+power-few (suc zero) h = omega arith
+power-few (suc (suc zero)) h = omega arith
+power-few (suc (suc (suc zero))) h = omega arith
+power-few (suc (suc (suc (suc k)))) h = absurd (omega arith)
 
-    no-forms : rest ≡ 0 → s.forms ≡ []
-    no-forms h = go s.forms refl
-      where
-        go : (fs : List ℕ) → s.forms ≡ fs → fs ≡ []
-        go [] e = refl
-        go (f ∷ fs) e =
-            let k = packed-first f fs (sym (ap are_packed e) ∙ s.are) in
-            let q : packed (f ∷ fs) ≡ 0 = sym (ap packed e) ∙ sym s.packs ∙ h in
-            absurd (omega (arith, k.0))
+-- So many arguments are read, the first of `arguments`; the other forms and words are left.
+pub record ArgumentsInvariant (p : Parameters) (n : ℕ) (ws : List (List ℕ)) (arguments : List ℕ) (i rest : ℕ) (left : List (List ℕ)) : Type 0 where
+  pub few : rest < 16 ^ (3 - i)
+  pub same : counted p n [] (row_of n).forms ws ≡ counted p n (take i arguments) (unpacked rest) left
 
-    pub too_many : rest ≡ 0 → ¬ (length (words (drop at l)) ≡ 0) → counted p n [] (row_of n).forms (words (drop from l)) ≡ fault 12
-    too_many h k = s.same ∙ ap (λ (fs : List ℕ). counted p n s.done fs (words (drop at l))) (no-forms h) ∙ go (words (drop at l)) k
-      where
-        go : (ws : List (List ℕ)) → ¬ (length ws ≡ 0) → counted p n s.done [] ws ≡ fault 12
-        go [] k = absurd (k refl)
-        go (w ∷ ws) k = counted-more p n s.done w ws
+module _ (p : Parameters) (n : ℕ) (ws : List (List ℕ)) where
+  pub at-start : {forms : ℕ} (arguments : List ℕ) → forms ≡ packed (row_of n).forms → ArgumentsInvariant p n ws arguments 0 forms ws
+  at-start arguments e =
+      record { few = rw e (forms_below n); same = ap (λ (fs : List ℕ). counted p n [] fs ws) (sym (forms-unpacked n) ∙ ap unpacked (sym e)) }
 
-    pub all_read : rest ≡ 0 → length (words (drop at l)) ≡ 0 →
-        counted p n [] (row_of n).forms (words (drop from l)) ≡ fine (record { head = n; first = get_or slots 0 0; second = get_or slots 1 0; third = get_or slots 2 0 })
-    all_read h k =
-        s.same
-        ∙ ap (λ (fs : List ℕ). counted p n s.done fs (words (drop at l))) (no-forms h)
-        ∙ ap (counted p n s.done []) (none (words (drop at l)) k)
-        ∙ counted-all p n s.done
-        ∙ rw (slot 0, slot 1, slot 2) refl
-      where
-        none : (ws : List (List ℕ)) → length ws ≡ 0 → ws ≡ []
-        none [] k = refl
-        none (w ∷ ws) k = absurd (omega arith)
+  module _ {arguments : List ℕ} {i rest : ℕ} {left : List (List ℕ)} (s : ArgumentsInvariant p n ws arguments i rest left) where
+    pub forms-few : rest < 16 ^ 3
+    forms-few = omega (arith, s.few, power-few (3 - i) (omega arith))
 
-        slot : (j : ℕ) → get_or slots j 0 ≡ get_or s.done j 0
-        slot j = ap (λ (xs : List ℕ). get_or xs j 0) s.stored ∙ get_d-zeros s.done (3 - i) j
+    pub at-argument : (x : ℕ) {behind : List (List ℕ)} → length arguments ≡ 3 → i < 3 →
+        counted p n (take i arguments) (unpacked rest) left ≡ counted p n (take i arguments ++ (x ∷ [])) (unpacked (rest / 16)) behind →
+        ArgumentsInvariant p n ws (set arguments i x) (i + 1) (rest / 16) behind
+    at-argument x {behind} h l e =
+        let m : 3 - i ≡ suc (3 - (i + 1)) = omega arith in
+        let few : rest < 16 ^ suc (3 - (i + 1)) = rw m at s.few in
+        record {
+          few = omega (arith, few);
+          same = s.same ∙ e ∙ ap (λ (xs : List ℕ). counted p n xs (unpacked (rest / 16)) behind) (sym (take_more_set arguments i x (omega arith)));
+        }
 
-    module _ {a b : ℕ} (h : ¬ (rest ≡ 0)) (w : NextWord l at a b) (d : ¬ (a ≡ b)) where
-      -- The first form and the rest of them.
-      split : (are_packed (left h).others ≡ true) × (rest % 16 ≡ (left h).first) × (rest / 16 ≡ packed (left h).others)
-      split =
-          let f = left h in
-          let e = sym (ap are_packed f.is) ∙ s.are in
-          let k = packed-first f.first f.others e in
-          let q = s.packs ∙ ap packed f.is in
-          ((both (between 1 15 f.first) (are_packed f.others) e).1, ap (λ (m : ℕ). m % 16) q ∙ k.1, ap (λ (m : ℕ). m / 16) q ∙ k.2)
+    none : 3 ≤ i → rest ≡ 0
+    none l = let m : 3 - i ≡ 0 = omega arith in let few : rest < 16 ^ 0 = rw m at s.few in omega (arith, few)
 
-      step : counted p n [] (row_of n).forms (words (drop from l))
-          ≡ counted p n s.done (rest % 16 ∷ (left h).others) (part a b l ∷ words (drop b l))
-      step =
-          let f = left h in
-          s.same
-          ∙ ap (counted p n s.done s.forms) (first_word w d)
-          ∙ ap (λ (fs : List ℕ). counted p n s.done fs (part a b l ∷ words (drop b l)))
-          (f.is ∙ ap (λ (m : ℕ). m ∷ f.others) (sym split.1))
+    pub all_read : length arguments ≡ 3 → i ≡ 3 → left ≡ [] →
+        counted p n [] (row_of n).forms ws ≡ fine (record { head = n; first = get_or arguments 0 0; second = get_or arguments 1 0; third = get_or arguments 2 0 })
+    all_read h l e =
+        let all : take i arguments ≡ arguments = take_all i arguments (omega (arith, h, l)) in
+        s.same ∙ rw (e, none (omega (arith, l)), unpacked_none, all) (counted-all p n arguments)
 
-      few-others : i + 1 + length (left h).others ≤ 3
-      few-others = omega (arith, s.few, ap length (left h).is)
-
-      pub at-fault : (k : ℕ) → checked_argument p (rest % 16) (argument (part a b l)) ≡ fault k →
-          counted p n [] (row_of n).forms (words (drop from l)) ≡ cond (eqb (length (words (drop b l))) (form_count (rest / 16))) (fault k) (fault 12)
-      at-fault k e =
-          let others = (left h).others in
-          let q : form_count (rest / 16) ≡ length others = ap form_count split.2 ∙ count-forms others split.0 (omega (arith, few-others)) in
-          step
-          ∙ counted-fault p n s.done (rest % 16) others (part a b l) (words (drop b l)) k e
-          ∙ ap (λ (m : ℕ). cond (eqb (length (words (drop b l))) m) (fault k) (fault 12)) (sym q)
-
-      pub at-word : (x : ℕ) → checked_argument p (rest % 16) (argument (part a b l)) ≡ fine x → ArgumentsInvariant p n l from (set slots i x) b (rest / 16) (i + 1)
-      at-word x e =
-          let others = (left h).others in
-          record {
-            done = s.done ++ (x ∷ []);
-            forms = others;
-            are = split.0;
-            few = few-others;
-            packs = split.2;
-            inside = w.high;
-            count = length-append s.done (x ∷ []) ∙ ap (λ (k : ℕ). k + 1) s.count;
-            stored =
-                ap (λ (xs : List ℕ). set xs i x) (s.stored ∙ ap (λ (k : ℕ). s.done ++ replicate k 0) more)
-                ∙ set_at s.done 0 (replicate (3 - (i + 1)) 0) x i s.count
-                ∙ sym (append_snoc s.done x (replicate (3 - (i + 1)) 0));
-            same = step ∙ counted-word p n s.done (rest % 16) others (part a b l) (words (drop b l)) x e;
-          }
-        where
-          more : 3 - i ≡ suc (3 - (i + 1))
-          more = omega (arith, few-others)
+    pub too_many : 3 ≤ i → {w : List ℕ} {others : List (List ℕ)} → left ≡ w ∷ others → counted p n [] (row_of n).forms ws ≡ fault 12
+    too_many l e = s.same ∙ rw (e, none l, unpacked_none) (counted-more p n (take i arguments) _ _)

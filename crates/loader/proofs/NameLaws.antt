@@ -206,10 +206,9 @@ first-of false false true d r e = rw e (refl, omega arith)
 first-of false false false true r e = rw e (refl, omega arith)
 first-of false false false false r e = rw e refl
 
-pub long-found : (w : List ℕ) → 8 ≤ length w → {r o : Option ℕ} →
-    r ≡ position (same_word w) (bytes "CLEAR_REG" ∷ bytes "CLEAR_DATA_MEM" ∷ bytes "DUMP_REG" ∷ bytes "DUMP_DATA_MEM" ∷ []) → r ≡ o →
-    Finds (option_map (λ (i : ℕ). 1 + i) o) (lookup w)
-long-found w h e q = rw (long-word w h) (first-of _ _ _ _ _ (sym q ∙ e))
+pub long-found : (w : List ℕ) → 8 ≤ length w →
+    Finds (option_map (λ (i : ℕ). 1 + i) (position (same_word w) (bytes "CLEAR_REG" ∷ bytes "CLEAR_DATA_MEM" ∷ bytes "DUMP_REG" ∷ bytes "DUMP_DATA_MEM" ∷ []))) (lookup w)
+long-found w h = rw (long-word w h) (first-of _ _ _ _ _ refl)
 
 pub table-length : length key_table ≡ 50
 unfolding key_table names

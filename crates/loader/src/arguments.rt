@@ -3,41 +3,39 @@ ghost use Rattle.std.specs.Prelude.{◌≡◌, ◌<◌, ◌≤◌, ◌^◌, drop
 ghost use Rattle.std.specs.Int.Signed.{mag};
 ghost use Rattle.model.specs.Parameters.{max_cells};
 ghost use Rattle.model.specs.Numbers.{mapped, natural, number};
-ghost use Rattle.model.specs.Words.{direct_kind, number_kind, word_of, number_bits, register, literal};
+ghost use Rattle.model.specs.Words.{number_kind, word_of, number_bits, register, literal};
 ghost use Rattle.model.specs.Load.{special_of, after_d, argument, checked_argument};
+ghost use Rattle.image.specs.Kinds.{number_of_kind};
 ghost use Rattle.loader.specs.Faults.{indexed_of, checked_of};
 ghost use Rattle.loader.specs.Keys.{Finds};
 
 use crate::names::find_word;
 use bounds::limits::Limits;
 use image::forms::{allows_direct, allows_number, allows_register, allows_special};
+use image::kinds::Kind;
 use model::Refusal;
-use model::words::{DIRECT, FIRST_NUMBER, FIRST_REGISTER, IAR, KIND, REGISTER};
+use model::words::{FIRST_NUMBER, FIRST_REGISTER, IAR, KIND};
 use numbers::reading::{NumberError, read_digits, read_number};
 use text::bytes::upper;
-
-// The words of 32 bits.
-const WORDS: i64 = 0x1_0000_0000;
 
 // The special registers, in the order of their numbers from that of IAR on.
 const SPECIALS: [&[u8]; 3] = [b"IAR", b"IRCR", b"SHR"];
 
-// The number of the special register that the word names.
+// The number of the special register that the word names. As `find_long`: what both share is `find_word`, and each has its table.
 fn special(w: &[u8]) -> Option<u32>
     ensures { Finds result (special_of w.now) }
 {
-    let i = find_word(w, &SPECIALS)?;
-    Some(IAR + i as u32)
+    find_word(w, &SPECIALS, IAR)
 }
 
 // The word of this kind for the index that the digits say, of those below the count.
-fn indexed(kind: u32, count: u32, digits: Option<u64>) -> Result<u32, Refusal>
-    requires { (kind ≤ direct_kind) × (count ≤ max_cells) }
-    ensures { checked_of (λ x. x) result ≡ indexed_of kind count digits }
+fn indexed(kind: Kind, count: u32, digits: Option<u64>) -> Result<u32, Refusal>
+    requires { count ≤ max_cells }
+    ensures { checked_of (λ x. x) result ≡ indexed_of (number_of_kind kind) count digits }
 {
     let v = digits.ok_or(Refusal::ArgumentForm)?;
-    if v < count as u64 {
-        Ok(kind * KIND + v as u32)
+    if v < u64::from(count) {
+        Ok(u32::from(kind) * KIND + v as u32)
     } else {
         Err(Refusal::ArgumentRange)
     }
@@ -50,7 +48,7 @@ fn register_word(digits: &[u8], form: u32, limits: Limits) -> Result<u32, Refusa
     if !allows_register(form) {
         return Err(Refusal::ArgumentForm);
     }
-    indexed(REGISTER, limits.parameters.n, read_digits(digits))
+    indexed(Kind::Register, limits.parameters.n, read_digits(digits))
 }
 
 // DM with digits, of which the D is known.
@@ -60,7 +58,7 @@ fn direct_word(w: &[u8], form: u32, limits: Limits) -> Result<u32, Refusal>
     if w.len() < 2 || upper(w[1]) != b'M' || !allows_direct(form) {
         return Err(Refusal::ArgumentForm);
     }
-    indexed(DIRECT, limits.parameters.b, read_digits(&w[2..]))
+    indexed(Kind::Direct, limits.parameters.b, read_digits(&w[2..]))
 }
 
 // The word of a number.
@@ -68,10 +66,7 @@ fn literal_word(z: i32) -> u32
     requires { mag z < 2 ^ 29 }
     ensures { result ≡ word_of number_kind (number_bits z) }
 {
-    if z < 0 {
-        return (WORDS + z as i64) as u32;
-    }
-    FIRST_NUMBER + z as u32
+    FIRST_NUMBER + z.cast_unsigned() % KIND
 }
 
 // A number.

@@ -6,8 +6,9 @@ pub mod line;
 pub mod names;
 pub mod tables;
 
-ghost use Rattle.std.specs.Prelude.{◌≡◌, cond, ◌∷◌, [], ◌+◌, ◌*◌, ◌≤◌, leb, length, drop};
-ghost use Rattle.std.proofs.lemmas.List.Edits.{sets};
+ghost use Rattle.std.specs.Prelude.{◌≡◌, cond, ◌*◌, leb, length};
+ghost use Rattle.model.specs.Words.{cell_words};
+ghost use Rattle.image.specs.Decode.{cell_from};
 ghost use Rattle.model.specs.Load.{Refused, lines, text_reply, load_reply, image_after, load_numbers, numbers_of_load};
 ghost use Rattle.model.specs.Parameters.{Fit};
 ghost use Rattle.model.specs.Replies.{refusal_number_of, load_answer};
@@ -18,14 +19,13 @@ use crate::tables::Tables;
 use bounds::limits::{Limits, check_parameters};
 use image::decode::Instruction;
 use model::{LoadError, Parameters, Record, Refusal};
-use text::lines::{count_lines, next_line};
+use text::lines::{Lines, count_lines};
 
-// The fault of line i, behind which the text goes on at `next`; but more than t lines come first.
-fn line_error(text: &[u8], next: usize, i: usize, t: usize, fault: Refusal) -> LoadError
-    requires { (next ≤ length text.now) × (i + 1 ≤ t) }
-    ensures { Refused (refusal_number_of result.refusal) result.line ≡ cond (leb (i + 1 + length (lines (drop next text.now))) t) (Refused (refusal_number_of fault) i) (Refused 8 0) }
+// The fault of line i of a text; but more than t lines come first.
+fn line_error(text: &[u8], i: usize, t: usize, fault: Refusal) -> LoadError
+    ensures { Refused (refusal_number_of result.refusal) result.line ≡ cond (leb (length (lines text.now)) t) (Refused (refusal_number_of fault) i) (Refused 8 0) }
 {
-    if count_lines(&text[next..]) <= t - i - 1 {
+    if count_lines(text) <= t {
         return LoadError {
             refusal: fault,
             line: i,
@@ -34,15 +34,12 @@ fn line_error(text: &[u8], next: usize, i: usize, t: usize, fault: Refusal) -> L
     LoadError::from(Refusal::LineCount)
 }
 
-// The four words of a cell from a place on.
-fn write_cell(image: &mut [u32], at: usize, cell: Instruction)
-    requires { at + 4 ≤ length image.old }
-    ensures { image.new ≡ sets image.old at (cell.number ∷ cell.first ∷ cell.second ∷ cell.third ∷ []) }
+// The four words of a cell.
+fn write_cell(to: &mut [u32], cell: Instruction)
+    requires { length to.old ≡ 4 }
+    ensures { to.new ≡ cell_words (cell_from cell) }
 {
-    image[at] = cell.number;
-    image[at + 1] = cell.first;
-    image[at + 2] = cell.second;
-    image[at + 3] = cell.third;
+    to.copy_from_slice(&[cell.number, cell.first, cell.second, cell.third]);
 }
 
 // A pass over the lines of a text: the count of its lines, or what it is refused for. Only a pass that writes fills the cells of an empty image.
@@ -59,23 +56,20 @@ fn parse_lines(
     ensures image { Filled write limits.parameters text.now image.old image.new (load_answer result) }
 {
     let t = limits.parameters.t as usize;
-    // Not a `for`: a turn goes on where its line ends.
-    let mut at = 0;
+    // Counted by hand: behind an `enumerate` the count is gone, and `count` would look for the ends of all lines once more.
     let mut i = 0;
-    while at < text.len() {
-        let line = next_line(text, at);
+    for line in Lines::new(text) {
         if i == t {
             return Err(LoadError::from(Refusal::LineCount));
         }
-        match parse_line(&text[at..line.end], limits, tables) {
-            Err(fault) => return Err(line_error(text, line.next, i, t, fault)),
+        match parse_line(line, limits, tables) {
+            Err(fault) => return Err(line_error(text, i, t, fault)),
             Ok(cell) => {
                 if write {
-                    write_cell(image, 4 * i, cell);
+                    write_cell(&mut image[4 * i..4 * i + 4], cell);
                 }
             }
         }
-        at = line.next;
         i += 1;
     }
     Ok(i)

@@ -1,39 +1,21 @@
 // A line of a text: the instruction, the count of its arguments, and each argument.
-ghost use Rattle.std.specs.Prelude.{◌≡◌, cond, [], ◌≤◌, eqb, length, drop};
+ghost use Rattle.std.specs.Prelude.{◌≡◌, ℕ, ◌/◌, ◌<◌, List, cond, [], eqb, length};
 ghost use Rattle.model.specs.Instructions.{row_of};
-ghost use Rattle.model.specs.Load.{words, fault, line_of};
+ghost use Rattle.model.specs.Load.{line_of};
 ghost use Rattle.model.specs.Replies.{refusal_number_of};
 ghost use Rattle.image.specs.Decode.{cell_from};
 ghost use Rattle.image.specs.Forms.{packed};
 ghost use Rattle.loader.specs.Faults.{checked_of};
-ghost use Rattle.loader.specs.Lines.{form_count, counted};
+ghost use Rattle.loader.specs.Lines.{form_count, unpacked, counted, counted_on};
+ghost use Rattle.text.specs.Words.{words_left};
 
 use crate::arguments::argument_word;
-use crate::names::find_name;
 use crate::tables::Tables;
 use bounds::limits::Limits;
 use image::decode::Instruction;
-use image::forms::{NOP, forms_of};
+use image::forms::NOP;
 use model::Refusal;
-use text::words::next_word;
-
-// The count of words from a place on. A cursor, since where the next word starts is known only behind this one.
-fn count_words(l: &[u8], from: usize) -> usize
-    requires { from ≤ length l.now }
-    ensures { result ≡ length (words (drop from l.now)) }
-{
-    // Not a `for`: a turn goes on where its word ends.
-    let mut at = from;
-    let mut count = 0;
-    loop {
-        let w = next_word(l, at);
-        if w.start == w.end {
-            return count;
-        }
-        at = w.end;
-        count += 1;
-    }
-}
+use text::words::Words;
 
 // The count of the forms.
 fn form_count(forms: u32) -> usize
@@ -47,77 +29,74 @@ fn form_count(forms: u32) -> usize
     }
 }
 
-// A faulty argument, unless the count of words is wrong, which comes first.
-fn fault_unless_miscounted(l: &[u8], from: usize, forms: u32, fault: Refusal) -> Refusal
-    requires { from ≤ length l.now }
-    ensures { refusal_number_of result ≡ cond (eqb (length (words (drop from l.now))) (form_count forms)) (refusal_number_of fault) 12 }
+// A faulty argument, unless the count of the words behind it is wrong, which comes first.
+#[tactic(auto, using(text::proofs::Walks::words_few))]
+fn fault_unless_miscounted(words: Words, forms: u32, fault: Refusal) -> Refusal
+    ensures { refusal_number_of result ≡ cond (eqb (length (words_left words.entry)) (form_count forms)) (refusal_number_of fault) 12 }
 {
-    if count_words(l, from) == form_count(forms) {
+    if words.count() == form_count(forms) {
         fault
     } else {
         Refusal::ArgumentCount
     }
 }
 
-// The arguments of an instruction from a place on, each at its form. The words are counted as they are read, so that the loop goes over both.
+// The word of the next argument, at the first of these forms; 0 where there is none. The words are counted as they are read, so that they are read once.
+fn next_argument(words: &mut Words, forms: u32, limits: Limits) -> Result<u32, Refusal>
+    requires { forms < 4096 }
+    ensures { (n : ℕ) (xs : List ℕ) → counted limits.parameters n xs (unpacked forms) (words_left words.old) ≡ counted_on limits.parameters n xs (unpacked (forms / 16)) (words_left words.new) result }
+{
+    if forms == 0 {
+        return Ok(0);
+    }
+    let Some(word) = words.next() else {
+        return Err(Refusal::ArgumentCount);
+    };
+    match argument_word(word, forms % 16, limits) {
+        Ok(x) => Ok(x),
+        Err(fault) => Err(fault_unless_miscounted(*words, forms / 16, fault)),
+    }
+}
+
+// The arguments of an instruction, each at its form.
 fn parse_arguments(
-    l: &[u8],
-    from: usize,
+    mut words: Words,
     number: u32,
     forms: u32,
     limits: Limits,
 ) -> Result<Instruction, Refusal>
-    requires { (from ≤ length l.now) × (forms ≡ packed (row_of number).forms) }
-    ensures { checked_of cell_from result ≡ counted limits.parameters number [] (row_of number).forms (words (drop from l.now)) }
+    requires { forms ≡ packed (row_of number).forms }
+    ensures { checked_of cell_from result ≡ counted limits.parameters number [] (row_of number).forms (words_left words.entry) }
 {
-    // Not a `for` over the places: the loop ends with the forms, and a turn goes on where its word ends.
-    let mut arguments = [0u32; 3];
-    let mut at = from;
+    let mut arguments = [0; 3];
     let mut rest = forms;
-    let mut i = 0;
-    while rest != 0 {
-        let w = next_word(l, at);
-        let start = w.start;
-        let end = w.end;
-        if start == end {
-            return Err(Refusal::ArgumentCount);
-        }
-        let form = rest % 16;
+    for argument in &mut arguments {
+        *argument = next_argument(&mut words, rest, limits)?;
         rest /= 16;
-        match argument_word(&l[start..end], form, limits) {
-            Ok(x) => arguments[i] = x,
-            Err(fault) => return Err(fault_unless_miscounted(l, end, rest, fault)),
-        }
-        at = end;
-        i += 1;
-    }
-    if count_words(l, at) != 0 {
-        return Err(Refusal::ArgumentCount);
     }
     let [first, second, third] = arguments;
-    Ok(Instruction {
-        number,
-        first,
-        second,
-        third,
-    })
+    match words.next() {
+        None => Ok(Instruction {
+            number,
+            first,
+            second,
+            third,
+        }),
+        Some(_) => Err(Refusal::ArgumentCount),
+    }
 }
 
 // The line as a cell.
 pub fn parse_line(l: &[u8], limits: Limits, tables: &Tables) -> Result<Instruction, Refusal>
     ensures { checked_of cell_from result ≡ line_of limits.parameters l.now }
 {
-    let w = next_word(l, 0);
-    let start = w.start;
-    let end = w.end;
-    if start == end {
+    let mut words = Words::new(l);
+    let Some(name) = words.next() else {
         return Ok(Instruction {
             number: NOP,
             ..Instruction::EMPTY
         });
-    }
-    let number = find_name(&l[start..end], &tables.keys, &tables.slots).ok_or(
-        Refusal::Instruction,
-    )?;
-    parse_arguments(l, end, number, forms_of(&tables.forms, number), limits)
+    };
+    let number = tables.names.find(name).ok_or(Refusal::Instruction)?;
+    parse_arguments(words, number, tables.forms.forms_of(number), limits)
 }

@@ -1,5 +1,5 @@
 // The instructions' names, and words that are compared with a name.
-ghost use Rattle.std.specs.Prelude.{◌≡◌, ◌≤◌, ◌<◌, length, IfSome};
+ghost use Rattle.std.specs.Prelude.{◌≡◌, ◌+◌, ◌^◌, ◌≤◌, ◌<◌, length, option_map};
 ghost use Rattle.std.specs.List.{position};
 ghost use Rattle.model.specs.Load.{same_word, lookup};
 ghost use Rattle.loader.specs.Keys.{key_of, key_table, Slots, place_from, Finds};
@@ -69,19 +69,6 @@ const SLOTS: [u8; 119] = [
     45, 0, 40, 0, 0,
 ];
 
-// The tables, which a call makes once and lends.
-pub fn key_table() -> [u64; 50]
-    ensures { result ≡ key_table }
-{
-    KEYS
-}
-
-pub fn slot_table() -> [u8; 119]
-    ensures { Slots result }
-{
-    SLOTS
-}
-
 // The names that are too long for a key, in the order of their numbers from 1 on.
 const LONG: [&[u8]; 4] = [
     b"CLEAR_REG",
@@ -104,31 +91,18 @@ fn word_key(w: &[u8]) -> u64
 {
     let mut key: u64 = 1;
     for &b in w {
-        key = key * 256 + upper(b) as u64;
+        key = key * 256 + u64::from(upper(b));
     }
     key
 }
 
-// The number of the instruction with this key. Only one place can have it.
-fn find_key(keys: &[u64], slots: &[u8], key: u64) -> Option<u32>
-    requires { (keys.now ≡ key_table) × Slots slots.now }
-    ensures { Finds result (place_from 5 key key_table) }
+// The number of the word among names that are numbered from `first` on.
+pub(crate) fn find_word(w: &[u8], names: &[&[u8]], first: u32) -> Option<u32>
+    requires { first + length names.now < 2 ^ 32 }
+    ensures { result ≡ option_map (λ i. first + i) (position (λ name. same_word w.now name.now) names.now) }
 {
-    let slot = (key % 9284 % 119) as usize;
-    let i = slots[slot] as usize;
-    if i < keys.len() && keys[i] == key {
-        Some(i as u32 + 5)
-    } else {
-        None
-    }
-}
-
-// The place of the word among names.
-pub(crate) fn find_word(w: &[u8], names: &[&[u8]]) -> Option<usize>
-    ensures bound { IfSome result (λ i. i < length names.now) }
-    ensures value { result ≡ position (λ name. same_word w.now name.now) names.now }
-{
-    names.iter().position(|name| same_word(w, name))
+    let i = names.iter().position(|name| same_word(w, name))?;
+    Some(first + i as u32)
 }
 
 // The number of the instruction with a name of eight bytes or more.
@@ -136,17 +110,44 @@ fn find_long(w: &[u8]) -> Option<u32>
     requires { 8 ≤ length w.now }
     ensures { Finds result (lookup w.now) }
 {
-    let i = find_word(w, &LONG)?;
-    Some(1 + i as u32)
+    find_word(w, &LONG, 1)
 }
 
-// The number of the instruction that the word names.
-pub fn find_name(w: &[u8], keys: &[u64], slots: &[u8]) -> Option<u32>
-    requires { (keys.now ≡ key_table) × Slots slots.now }
-    ensures { Finds result (lookup w.now) }
-{
-    if 7 < w.len() {
-        return find_long(w);
+// The names of the instructions, which a call makes once and lends. Arrays and no map: there is no heap, and one comparison at a key's remainder finds a name.
+#[derive(Drop)]
+pub struct NameTable {
+    keys: [u64; 50],
+    slots: [u8; 119],
+    ghost keys_value: { keys ≡ key_table },
+    ghost slots_value: { Slots slots },
+}
+
+impl NameTable {
+    pub fn new() -> Self {
+        NameTable {
+            keys: KEYS,
+            slots: SLOTS,
+        }
     }
-    find_key(keys, slots, word_key(w))
+
+    // The number of the instruction with this key. Only one place can have it.
+    fn find_key(&self, key: u64) -> Option<u32>
+        ensures { Finds result (place_from 5 key key_table) }
+    {
+        let i = self.slots[(key % 9284 % 119) as usize];
+        match self.keys.get(usize::from(i)) {
+            Some(&k) if k == key => Some(5 + u32::from(i)),
+            _ => None,
+        }
+    }
+
+    // The number of the instruction that the word names.
+    pub fn find(&self, w: &[u8]) -> Option<u32>
+        ensures { Finds result (lookup w.now) }
+    {
+        if 7 < w.len() {
+            return find_long(w);
+        }
+        self.find_key(word_key(w))
+    }
 }

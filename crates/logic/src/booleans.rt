@@ -29,6 +29,7 @@ pub fn boolean(b: bool) -> i32
     if b { -1 } else { 0 }
 }
 
+// The comparisons share `boolean`. No one function over a closure for them: what is left of each is its operator.
 pub fn cmpeq(x: i32, y: i32) -> i32
     ensures { result ≡ boolean_of (eq_z x y) }
 {
@@ -76,7 +77,8 @@ pub fn not(x: i32) -> Result<i32, ReturnCode>
     Err(ReturnCode::NotBoolean)
 }
 
-// The result b of two values, or code 1 if one of them is not Boolean.
+// The result b of two values, or code 1 if one of them is not Boolean. It takes no closure for the operator: it would be handed on in place of what it
+// answers, and the clauses would speak of the answers of a closure.
 fn combined(x: i32, y: i32, b: bool) -> Result<i32, ReturnCode>
     ensures value { answer_of result ≡ cond (is_boolean x && is_boolean y) (value (boolean_of b)) (code 1) }
     ensures reason { IsOkUnless result ReturnCode.NotBoolean }

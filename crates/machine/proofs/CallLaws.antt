@@ -15,7 +15,7 @@ use Rattle.model.proofs.Refusals.{grant-number}
 use Rattle.model.proofs.Replies.{start-answered, grant-answered}
 use Rattle.model.specs.Calls.{Held, held_after, environment_for, fresh_record, start_checks, account_of, record_of, Granted, granted, granted_by, grant_refusal, outcome_number, outcome_word, stop_word}
 use Rattle.model.specs.Grants.{Call, Account, accept, hand_back}
-use Rattle.model.specs.Parameters.{refusal_of, limit}
+use Rattle.model.specs.Parameters.{refusal_of}
 use Rattle.model.specs.Replies.{refusal_number_of, start_answer, as_started, grant_answer}
 use Rattle.model.specs.Step.{Environment, Memory, State, Tak}
 use Rattle.model.specs.declared.AcceptedGrant.{AcceptedGrant}
@@ -27,7 +27,6 @@ use Rattle.engine.specs.Runs.{Runnable, stop_at, RunIs}
 use Rattle.engine.specs.declared.Ran.{Ran}
 use Rattle.operands.specs.Cores.{state_in}
 use Rattle.operands.specs.declared.Core.{Core}
-use Rattle.prices.specs.Prices.{price_table}
 use Rattle.machine.specs.CallContracts.{StartIs, GrantIs}
 
 -- START
@@ -84,18 +83,8 @@ module _ (lent : Environment) (held : Held) (c : Call) where
     total = held.rec.granted + c.cycles
 
     module _ (start : Core) (at-start : state_in start held.memory ≡ account.state) where
-      pub runnable : {m : ℕ} {prices : List ℕ} → m ≡ limit e.parameters.k → prices ≡ price_table →
-          Runnable e m prices start before total held.memory
-      runnable l t =
-          record {
-            fit = fits.start.fit;
-            limit_is = l;
-            prices_are = t;
-            image-length = fits.start.image-length;
-            image-fits = fits.start.image-fits;
-            sound = rw at-start sound.state;
-            paid = omega (arith, sound.spent);
-          }
+      pub runnable : Runnable e start before total held.memory
+      runnable = record { sound = rw at-start sound.state; paid = omega (arith, sound.spent) }
 
       -- Where the run stops is what the definition hands back.
       handed-back : granted_by e.parameters (hand_back account c (stop_at e start before total held.memory c.slice)) ≡ granted lent held c

@@ -9,6 +9,13 @@ use Rattle.model.specs.declared.Record.{Record}
 abbrev pub head_fits : (b s : ℕ) → ℤ → Bool
 head_fits b s shr = le_z (pos b -ℤ pos 1) shr && le_z shr (pos s -ℤ pos 1)
 
+-- The tests of where a record stands, and those of its cycles.
+abbrev pub core_fits : Record → Bool
+core_fits r = leb r.iar r.parameters.t && (leb r.ircr 3 && head_fits r.parameters.b r.parameters.s r.shr)
+
+abbrev pub account_fits : Record → Bool
+account_fits r = leb r.spent r.granted && leb r.granted max_granted
+
 -- A record passes its tests, with an input of this length. They do not look at the memory.
 abbrev pub fields_fit : Record → (input : ℕ) → Bool
 fields_fit r input = all_pass (record_tests r.parameters input (account_of (as_held r [] [])))

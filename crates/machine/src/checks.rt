@@ -5,7 +5,7 @@ ghost use Rattle.model.specs.Calls.{as_held, as_call, shape_checks, memory_fits,
 ghost use Rattle.model.specs.Replies.{refusal_number};
 ghost use Rattle.bounds.specs.Bounds.{IsLimit};
 ghost use Rattle.model.specs.Step.{as_memory, environment_of};
-ghost use Rattle.machine.specs.Checks.{head_fits, fields_fit, cycles_fit};
+ghost use Rattle.machine.specs.Checks.{head_fits, core_fits, account_fits, fields_fit, cycles_fit};
 
 use bounds::limits::{check_parameters, limit_of};
 use bounds::ranges::in_range;
@@ -49,45 +49,52 @@ pub fn check_start(
     Ok(())
 }
 
-// Each value is in -M..M-1. No test ends the loop, so that several are made at once.
+// Each value is in -M..M-1. No test ends the fold, so that several are made at once.
 fn values_fit(m: u32, values: &[i32]) -> bool
     requires { IsLimit m }
     ensures { result ≡ all_in_range m values.now }
 {
-    let mut fit = true;
-    for value in values {
-        fit = fit & in_range(m, *value);
-    }
-    fit
+    values
+        .iter()
+        .fold(true, |fit, &value| fit & in_range(m, value))
 }
 
 // SHR is B-1..S-1, tested in 64 bits.
 fn head_fits(b: u32, s: u32, shr: i64) -> bool
     ensures { result ≡ head_fits b s shr }
 {
-    (b as i64) - 1 <= shr && shr <= (s as i64) - 1
+    (i64::from(b) - 1..i64::from(s)).contains(&shr)
+}
+
+// IAR is 0..T, IRCR 0..3, and SHR in its bounds.
+fn core_fits(rec: Record) -> bool
+    ensures { result ≡ core_fits rec }
+{
+    rec.iar <= rec.parameters.t
+        && rec.ircr <= 3
+        && head_fits(rec.parameters.b, rec.parameters.s, rec.shr)
+}
+
+// The cycles spent are at most those granted, and these at most 10^15.
+fn account_fits(rec: Record) -> bool
+    ensures { result ≡ account_fits rec }
+{
+    rec.spent <= rec.granted && rec.granted <= Record::MAX_GRANTED
 }
 
 // The numbers of a record, with an input of this length.
 fn fields_fit(rec: Record, input: usize) -> bool
     ensures { result ≡ fields_fit rec input }
 {
-    if rec.parameters.t < rec.iar {
-        return false;
-    }
-    if 3 < rec.ircr {
-        return false;
-    }
-    if !head_fits(rec.parameters.b, rec.parameters.s, rec.shr) {
-        return false;
-    }
-    if rec.granted < rec.spent {
-        return false;
-    }
-    if Record::MAX_GRANTED < rec.granted {
-        return false;
-    }
-    rec.place <= input
+    core_fits(rec) && account_fits(rec) && rec.place <= input
+}
+
+// Registers and data cells are in -M..M-1.
+fn memory_in_range(m: u32, registers: &[i32], cells: &[i32]) -> bool
+    requires { IsLimit m }
+    ensures { result ≡ (all_in_range m registers.now && all_in_range m cells.now) }
+{
+    values_fit(m, registers) && values_fit(m, cells)
 }
 
 // The record and the memory fit (not 15), whatever the image is.
@@ -95,14 +102,8 @@ fn record_fits(rec: Record, input: &[u8], registers: &[i32], cells: &[i32]) -> b
     requires { Fit rec.parameters }
     ensures { (image : List ℕ) → result ≡ record_fits (environment_of rec.parameters image input.now) (account_of (as_held rec registers.now cells.now)) }
 {
-    if !fields_fit(rec, input.len()) {
-        return false;
-    }
     let m = limit_of(rec.parameters.k);
-    if !values_fit(m, registers) {
-        return false;
-    }
-    values_fit(m, cells)
+    fields_fit(rec, input.len()) && memory_in_range(m, registers, cells)
 }
 
 // Not 17. The cycles are tested first, so that the sum cannot wrap.

@@ -13,11 +13,12 @@ ghost use Rattle.operands.specs.Cores.{state_in};
 ghost use Rattle.machine.specs.CallContracts.{StartIs, GrantIs};
 
 use crate::checks::{check_grant, check_start};
-use bounds::limits::limit_of;
+use bounds::limits::Limits;
+use engine::program::Program;
 use engine::run;
 use model::{AcceptedGrant, Parameters, Record, Refusal};
 use operands::Core;
-use prices::price_table;
+use prices::Prices;
 
 // Start: the fresh record, with registers and data cells zeroed.
 pub fn start(
@@ -35,7 +36,7 @@ pub fn start(
     Ok(Record::fresh(p))
 }
 
-// Where the machine of a record stands.
+// Where the machine of a record stands. No `From`: it asks that SHR and the data cells' count are within their bounds, and a `from` can ask nothing.
 fn core_of(rec: Record) -> Core
     requires { (le_z (pos rec.parameters.b -ℤ pos 1) rec.shr ≡ true) × (le_z rec.shr (pos rec.parameters.s -ℤ pos 1) ≡ true) × (rec.parameters.s ≤ max_cells) }
     ensures { (m : Memory) → state_in result m ≡ (account_of (record { rec = rec; memory = m })).state }
@@ -48,7 +49,7 @@ fn core_of(rec: Record) -> Core
     }
 }
 
-// The record of where it stands.
+// The record of where it stands. No `From` for the same reason: it asks the bounds of IAR and SHR.
 fn record_of(p: Parameters, at: Core, granted: u64, spent: u64) -> Record
     requires { (at.iar ≤ max_instructions) × (at.top ≤ max_cells) }
     ensures { (m : Memory) → result ≡ record_of p (record { state = state_in at m; granted = granted; spent = spent }) }
@@ -79,16 +80,15 @@ pub fn grant(
         (as_granted rec result registers.new cells.new out.new) }
 {
     check_grant(rec, image, input, cycles, registers, cells)?;
-    let p = rec.parameters;
-    let m = limit_of(p.k);
-    let prices = price_table();
+    let program = Program {
+        limits: Limits::new(rec.parameters),
+        image,
+        prices: Prices::fixed(),
+        input,
+    };
     let granted = rec.granted + cycles;
     let ran = run(
-        p,
-        m,
-        image,
-        &prices,
-        input,
+        &program,
         core_of(rec),
         rec.spent,
         granted,
@@ -98,7 +98,7 @@ pub fn grant(
     );
     Ok(AcceptedGrant {
         ending: ran.ending,
-        rec: record_of(p, ran.core, granted, ran.spent),
+        rec: record_of(rec.parameters, ran.core, granted, ran.spent),
         values: ran.count,
         cycles: ran.spent - rec.spent,
     })

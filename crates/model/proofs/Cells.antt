@@ -1,7 +1,7 @@
 -- The cells of an image that fits, and the literals in them. Assumes nothing.
 use Prim.Native.Nat.{ℕ, zero, suc, ◌+◌, ◌*◌, ◌<◌}
 use mathlib.Core.Path.{◌≡◌, refl, sym, ap, ◌∙◌}
-use mathlib.Core.Bool.{Bool, true, false, ◌&&◌, cond}
+use mathlib.Core.Bool.{Bool, true, false}
 use mathlib.Core.List.{List, [], ◌∷◌}
 use native.Mathlib.Omega.{arith}
 use lib.Dec.{eqb}
@@ -10,11 +10,12 @@ use lib.Seq.{drop-drop}
 use borrow.Author.Tests.{eqb-true, eq-eqb}
 use Rattle.model.specs.declared.Parameters.{Parameters}
 use Rattle.model.specs.Parameters.{between, limit, in_range}
-use Rattle.model.specs.Words.{literal, Cell, cell_of, cell_at, is_empty, kind_of, content_of, number_of}
+use Rattle.model.specs.Words.{Cell, cell_of, cell_at, is_empty, kind_of, content_of, number_of}
 use Rattle.model.specs.Instructions.{rows, row_of}
-use Rattle.model.specs.Load.{allows, is_within}
+use Rattle.model.specs.Load.{is_within}
 use Rattle.model.specs.Images.{word_fits, words_fit, cell_fits, all_zero, cells_fit}
 use Rattle.model.proofs.Fits.{both, and_both, is-between}
+use Rattle.std.proofs.Common.{rules}
 
 -- ZEROS
 zero_get_d : (ws : List ℕ) (i : ℕ) → all_zero ws ≡ true → get_or ws i 0 ≡ 0
@@ -56,14 +57,7 @@ pub data First (p : Parameters) (t : ℕ) (ws : List ℕ) : Type 0 where
 
 pub first_cell : (p : Parameters) (t : ℕ) (ws : List ℕ) → cells_fit p (suc t) ws ≡ true → First p t ws
 unfolding cells_fit
-first_cell p t ws h = go (is_empty (cell_of (take 4 ws))) h
-  where
-    fits : Bool
-    fits = cell_fits p (cell_of (take 4 ws))
-
-    go : (b : Bool) → (elim b as (λ x. Bool) [ true ↦ all_zero ws | false ↦ fits && cells_fit p t (drop 4 ws) ]) ≡ true → First p t ws
-    go true h = zeros h
-    go false h = let k = both fits (cells_fit p t (drop 4 ws)) h in full k.0 k.1
+first_cell p t ws h = search rules
 
 -- A cell that is not empty fits.
 pub cell-fits : (p : Parameters) (t : ℕ) (ws : List ℕ) (i : ℕ) → cells_fit p t ws ≡ true → i < t → is_empty (cell_at ws i) ≡ false →
@@ -105,14 +99,9 @@ pub record CellReadable (p : Parameters) (c : Cell) : Type 0 where
   pub second : Readable p c.second
   pub third : Readable p c.third
 
-third_kind : (k : ℕ) (a b c : Bool) → k ≡ 3 → cond (eqb k 1) a (cond (eqb k 2) b (eqb k 3 && c)) ≡ true → c ≡ true
-third_kind k a b c e h = rw e at h
-
 word-readable : (p : Parameters) (form w : ℕ) → word_fits p form w ≡ true → Readable p w
 unfolding word_fits is_within
-word-readable p form w h e =
-    let z = literal (number_of (content_of w)) in
-    (both (allows form z) (is_within p z) (third_kind (kind_of w) _ _ _ e h)).1
+word-readable p form w h e = search rules
 
 zero-readable : (p : Parameters) (w : ℕ) → w ≡ 0 → Readable p w
 zero-readable p w h e = absurd (omega arith)

@@ -10,9 +10,10 @@ use native.Mathlib.Omega.{arith}
 use lib.IntN.{ℤ, pos, negsuc, neg_ℤ}
 use lib.ListN.{length}
 use lib.Signed.{mag}
-use borrow.Author.Tests.{lt-ltb, le-ltb, le-leb, ne_eqb}
+use borrow.Author.Tests.{lt-ltb, le-ltb, ne_eqb}
 use Rattle.model.specs.Numbers.{is_digit, digits_from, natural, mapped, number, digits_of, decimal, longest_decimal}
-use Rattle.model.proofs.Fits.{and_both, is-between}
+use Rattle.model.proofs.Fits.{is-between}
+use Rattle.std.proofs.Common.{rules}
 
 -- 0 to 9 alone.
 abbrev pub AllDigits : List ℕ → Type 0
@@ -119,7 +120,7 @@ decimal-length (negsuc n) h = omega (arith, digits-at-most (suc (suc n)) (suc n)
 
 -- IT IS PLAIN
 is_digit_lem : (d : ℕ) → d < 10 → is_digit (48 + d) ≡ true
-is_digit_lem d h = and_both (le-leb 48 (48 + d) (omega arith)) (le-leb (48 + d) 57 (omega arith))
+is_digit_lem d h = search rules
 
 abbrev Leads : (fuel n : ℕ) → Type 0
 Leads f n = (s : List ℕ) → 1 ≤ n → AllDigits s → Leading (digits_of f n s)
@@ -146,7 +147,7 @@ decimal-plain (negsuc n) = is_negative (leading n)
 -- IT IS READ BACK
 read-digit : (m d : ℕ) (s : List ℕ) → d < 10 → digits_from m ((48 + d) ∷ s) ≡ digits_from (m * 10 + d) s
 unfolding digits_from
-read-digit m d s h = let e : 48 + d - 48 ≡ d = omega arith in simp (digits_from, is_digit_lem d h, e)
+read-digit m d s h = search rules
 
 abbrev Back : (fuel n : ℕ) → Type 0
 Back f n = (s : List ℕ) → digits_from 0 (digits_of f n s) ≡ digits_from n s

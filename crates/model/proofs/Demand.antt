@@ -16,6 +16,7 @@ use Rattle.model.proofs.Costs.{priced}
 use Rattle.model.proofs.GrantKeeps.{started-accepted}
 use Rattle.model.proofs.Lists.{start, results, final, joined, replies}
 use Rattle.model.proofs.Lists as lists
+use Rattle.std.proofs.Common.{rules}
 
 -- The record and the memory that an account stands for.
 abbrev pub held_of : Parameters → Account State → Held
@@ -54,22 +55,7 @@ module _ (e : Environment) where
 
   -- What a list leaves, read as an account, and what is after m instructions in its parts.
   to-stands : (m : ℕ) (a : Account State) (out out' : List ℤ) → out ≡ out' → IsAfter e m (held_of p a) out → lists.Stands M m a out'
-  to-stands m a out out' h s =
-      record {
-        reaches = s.instructions;
-        state =
-            λ i.
-            record {
-              iar = s.iar i;
-              ircr = s.ircr i;
-              shr = s.shr i;
-              place = s.place i;
-              registers = (s.memory i).registers;
-              cells = (s.memory i).cells;
-            };
-        outs = sym h ∙ s.outs;
-        count = s.count;
-      }
+  to-stands m a out out' h s = search rules
 
   to-after : (m : ℕ) (a : Account State) (out out' : List ℤ) → out ≡ out' → lists.Stands M m a out' → IsAfter e m (held_of p a) out
   to-after m a out out' h s = rw (s.state, h) search

@@ -1,21 +1,22 @@
 -- What passed checks say: of the parameters (1 to 5), of start and of grant. Assumes nothing.
-use Prim.Native.Nat.{ℕ, suc, ◌+◌, ◌*◌, ◌-◌, ◌^◌, ◌≤◌}
-use mathlib.Core.Path.{◌≡◌, refl, sym, ap, ◌∙◌}
+use Prim.Native.Nat.{ℕ, ◌+◌, ◌*◌, ◌-◌, ◌^◌, ◌≤◌}
+use mathlib.Core.Path.{◌≡◌, refl, sym, ◌∙◌}
 use mathlib.Core.Bool.{Bool, true, false, not, ◌&&◌, cond, and-eq-true_iff, and_assoc}
 use mathlib.Core.List.{List, [], ◌∷◌, ◌++◌}
 use mathlib.Core.Logic.{◌↔◌}
-use native.Mathlib.Nat.{pow-succ'}
 use native.Mathlib.Omega.{arith}
 use lib.Dec.{eqb, leb}
 use lib.ListN.{length}
 use lib.Pow.{pow_mono}
-use borrow.Author.Tests.{leb-true, eqb-true, eq-eqb}
+use borrow.Author.Tests.{leb-true, eqb-true}
 use Rattle.model.specs.declared.Parameters.{Parameters}
 use Rattle.model.specs.Parameters.{Check, ◌unless◌, refusal_of, all_pass, between, limit, max_registers, max_cells, max_instructions, max_input, max_grant, max_granted, parameter_checks, Fit}
 use Rattle.model.specs.Images.{image_fits}
 use Rattle.model.specs.Grants.{Account, Call}
 use Rattle.model.specs.Step.{Environment, Memory, State}
 use Rattle.model.specs.Calls.{shape_checks, memory_fits, memory_of, size_checks, start_checks, record_fits, grant_checks, grant_refusal}
+use Rattle.std.proofs.lemmas.Grind.{common_steps}
+use Rattle.std.proofs.Common.{rules}
 
 -- Two tests that passed, and back.
 pub both : (a b : Bool) → (a && b) ≡ true → (a ≡ true) × (b ≡ true)
@@ -30,7 +31,7 @@ by_cond P true x y f g = f refl
 by_cond P false x y f g = g refl
 
 pub is-between : (low high x : ℕ) → between low high x ≡ true → (low ≤ x) × (x ≤ high)
-is-between low high x h = let k = both (leb low x) (leb x high) h in (leb-true low x k.0, leb-true x high k.1)
+is-between low high x h = search rules
 
 -- A LIST OF TESTS, each of which passes.
 abbrev pub AllTrue : List Bool → Type 0
@@ -106,10 +107,7 @@ lacks n [] = true
 lacks n (c ∷ cs) = not (eqb c.number n) && lacks n cs
 
 other-number : (m n : ℕ) → not (eqb m n) ≡ true → ¬ (m ≡ n)
-other-number m n h e =
-    let q : false ≡ true = rw (eq-eqb m n e) at h in
-    let z : ◌≡◌ {A = ℕ} 0 1 = cc in
-    omega arith
+other-number m n h e = search rules
 
 not-given : (n : ℕ) (cs : List Check) → 1 ≤ n → lacks n cs ≡ true → ¬ (refusal_of cs ≡ n)
 not-given n [] l h e = omega arith
@@ -165,32 +163,11 @@ parameters-numbered p = omega arith
 
 -- A count of cells, which a value can hold.
 counted : (most m x : ℕ) → (between 1 most x && leb x (m - 1)) ≡ true → (1 ≤ x) × (x ≤ most) × (x ≤ m - 1)
-counted most m x h =
-    let k = both (between 1 most x) (leb x (m - 1)) h in
-    let b = is-between 1 most x k.0 in
-    (b.0, b.1, leb-true x (m - 1) k.1)
+counted most m x h = search rules
 
 pub limits : (p : Parameters) → Fit p → Limits p
 unfolding parameter_checks
-limits p h =
-    let f = all_fit (parameter_checks p) (parameters-numbered p) h in
-    let k = is-between 8 30 p.k f.0 in
-    let n = is-between 1 max_registers p.n f.1.0 in
-    let s = counted max_cells (limit p.k) p.s f.1.1.0 in
-    let t = counted max_instructions (limit p.k) p.t f.1.1.1.1.0 in
-    record {
-      k-low = k.0;
-      k-high = k.1;
-      n-low = n.0;
-      n-high = n.1;
-      s-low = s.0;
-      s-high = s.1;
-      s-value = s.2;
-      b-high = leb-true p.b p.s f.1.1.1.0;
-      t-low = t.0;
-      t-high = t.1;
-      t-value = t.2;
-    }
+limits p h = grind (arith, common_steps)
 
 -- M is 128 to 2^29, and twice M is 2^K.
 pub limit-low : {k : ℕ} → 8 ≤ k → 128 ≤ limit k
@@ -200,10 +177,7 @@ pub limit-high : {k : ℕ} → k ≤ 30 → limit k ≤ 2 ^ 29
 limit-high {k} h = pow_mono {i = k - 1} {j = 29} (omega arith)
 
 pub limit-double : {k : ℕ} → 1 ≤ k → 2 * limit k ≡ 2 ^ k
-limit-double {k} h = sym (pow-succ' 2 (k - 1)) ∙ ap (λ (n : ℕ). 2 ^ n) e
-  where
-    e : suc (k - 1) ≡ k
-    e = omega arith
+limit-double {k} h = grind (arith, common_steps)
 
 -- START
 -- The lengths of the memory are the parameters'.
@@ -227,9 +201,7 @@ module _ (p : Parameters) (image : List ℕ) where
       (no-refusal (parameter_checks p) (fit-left (parameter_checks p) _ f), eqb-true (length image) (4 * p.t) g.0)
 
 pub memory-sized : (p : Parameters) (m : Memory) → memory_fits p m ≡ true → Sized p m
-memory-sized p m h =
-    let k = both (eqb (length m.registers) p.n) (eqb (length m.cells) p.s) h in
-    record { register-count = eqb-true (length m.registers) p.n k.0; cell-count = eqb-true (length m.cells) p.s k.1 }
+memory-sized p m h = search rules
 
 module _ (e : Environment) (m : Memory) where
   abbrev p : Parameters

@@ -6,19 +6,20 @@ use mathlib.Core.List.{List, [], ◌∷◌, ◌++◌}
 use native.Mathlib.Nat.{le_refl}
 use native.Mathlib.Omega.{arith}
 use lib.ListN.{length}
-use borrow.Author.Tests.{leb-true, le-leb}
+use borrow.Author.Tests.{leb-true}
 use Rattle.model.specs.Parameters.{Fit, max_granted, refusal_of}
 use Rattle.model.specs.Images.{image_fits}
 use Rattle.model.specs.Machine.{goes}
 use Rattle.model.specs.Grants.{Call, Account, RunState, beginning, hand_back, refuse, advance, look_from, accept, grant}
 use Rattle.model.specs.Step.{Environment, Memory, State, Tak, fresh_state}
 use Rattle.model.specs.Calls.{fresh_record, start_checks, fresh_memory, Started, started, held_after_start, record_tests, memory_tests, memory_of, record_fits, grant_refusal, account_of}
-use Rattle.model.proofs.Fits.{all_true, all_pass_lem, Sized, GrantFits, start-accepted, grant-accepted}
+use Rattle.model.proofs.Fits.{all_true, Sized, GrantFits, start-accepted, grant-accepted}
 use Rattle.model.proofs.Laws.{going}
 use Rattle.model.proofs.Loop.{run_keeps}
 use Rattle.model.proofs.Lists.{final}
 use Rattle.model.proofs.Lists as lists
 use Rattle.model.proofs.Keeps.{Sound, step_keeps, fresh-sound}
+use Rattle.std.proofs.Common.{rules}
 
 -- THE LOOP
 module _ (e : Environment) (granted before : ℕ) where
@@ -76,14 +77,7 @@ module _ (e : Environment) (a : Account State) where
 
   pub sound_record : AccountSound e a → record_fits e a ≡ true
   unfolding record_fits
-  sound_record h =
-      let s = h.state in
-      let iar = le-leb a.state.iar e.parameters.t s.iar in
-      let ircr = le-leb a.state.ircr 3 s.ircr in
-      let spent = le-leb a.spent a.granted h.spent in
-      let granted = le-leb a.granted max_granted h.granted in
-      let place = le-leb a.state.place (length e.input) s.place in
-      all_pass_lem tests (iar, (ircr, (s.low, (s.high, (spent, (granted, (place, (s.registers, (s.cells, tt)))))))))
+  sound_record h = search rules
 
 -- AN ACCEPTED GRANT: from account a to b.
 pub record GrantKept (e : Environment) (a : Account State) (c : Call) (b : Account State) : Type 0 where

@@ -1,29 +1,30 @@
 -- A step keeps what refusal 15 asks of a record and the memory, and so does a fresh state. Assumes nothing.
 use Prim.Native.Nat.{ℕ, suc, ◌+◌, ◌≤◌, ◌<◌}
-use mathlib.Core.Path.{◌≡◌, refl, ◌∙◌}
-use mathlib.Core.Bool.{Bool, true, false, ◌&&◌, ◌||◌, cond, beq}
+use mathlib.Core.Path.{◌≡◌, ◌∙◌}
+use mathlib.Core.Bool.{Bool, true, false, beq}
 use mathlib.Core.List.{List, [], ◌∷◌}
 use mathlib.Core.Option.{Option, none, some}
 use native.Mathlib.Nat.{le_refl}
 use native.Mathlib.Omega.{arith}
-use lib.Dec.{eqb, ltb}
+use lib.Dec.{eqb}
 use lib.IntN.{ℤ, pos, nat_abs, suc_ℤ, pred_ℤ, ◌-ℤ◌}
 use lib.ListN.{length, get_or, set, drop, length-drop, length-set, length-replicate}
-use lib.Signed.{mag, le_z, non_neg}
-use borrow.Author.Tests.{eqb-true, eqb-false, ltb-true}
+use lib.Signed.{mag, le_z}
+use borrow.Author.Tests.{eqb-true}
 use Rattle.model.specs.Parameters.{Fit, limit, in_range, eq_z, is_boolean, is_true}
 use Rattle.model.specs.Words.{Cell, is_empty, kind_of, register_kind, direct_kind, number_kind, content_of, iar_number, ircr_number, shr_number, number_of}
 use Rattle.model.specs.Numbers.{is_blank, number}
 use Rattle.model.specs.Arithmetic.{Answer, value, code}
 use Rattle.model.specs.Instructions.{Operation, clear_registers, clear_cells, dump_registers, dump_cells, inputs, outputs, pushes, pops, skips, idles, writes, jumps, jumps_on}
 use Rattle.model.specs.Images.{image_fits}
-use Rattle.model.specs.Machine.{Status, running}
+use Rattle.model.specs.Machine.{running}
 use Rattle.model.specs.Step.{Environment, State, fresh_state, with_iar, with_ircr, with_shr, with_place, with_registers, with_cells, register_value, value_of, store, argument_at, Effect, succeeds, fails, next, stores, jump_to, push, pop, blanks_of, token_of, input_number, input_answer, input, execute, settled, current_cell, current_operation, state_status, step}
 use Rattle.model.specs.Calls.{all_in_range}
-use Rattle.model.proofs.Fits.{both, by_cond, Limits, limits, limit-low}
+use Rattle.model.proofs.Fits.{by_cond, Limits, limits, limit-low}
 use Rattle.model.proofs.Cells.{cell-fits, Readable, CellReadable, cell-readable}
 use Rattle.model.proofs.Ranges.{range-mag, mag-range, Good, WritesRange, row-range, get_d-range, set-range, replicate-range}
 use Rattle.model.proofs.Stack.{raised-low, raised-high, lowered-high, lowered-low, head-mag, heads}
+use Rattle.std.proofs.Common.{rules}
 
 abbrev pub limit_of : Environment → ℕ
 limit_of e = limit e.parameters.k
@@ -163,11 +164,7 @@ module _ (e : Environment) (l : Limits e.parameters) (s : State) (g : Going e s)
 
   jump_preserves : (z : ℤ) → Preserves e (jump_to e z s)
   unfolding jump_to
-  jump_preserves z =
-      by_cond (Preserves e) (non_neg z && ltb (nat_abs z) e.parameters.t) _ _ (λ h. iar-sound g.sound (nat_abs z) (target h)) (λ h. omega arith)
-    where
-      target : (non_neg z && ltb (nat_abs z) e.parameters.t) ≡ true → nat_abs z ≤ e.parameters.t
-      target h = omega (arith, ltb-true (nat_abs z) e.parameters.t (both (non_neg z) _ h).1)
+  jump_preserves z = search rules
 
 module _ (e : Environment) (l : Limits e.parameters) (s : State) (g : Going e s) where
   stores_preserves : (w : ℕ) (a : Answer) → Good (limit_of e) a → Preserves e (stores w s a)
@@ -249,13 +246,6 @@ module _ (e : Environment) (l : Limits e.parameters) (s : State) (g : Going e s)
       (λ h. next_preserves e l s g)) (λ h. omega arith)
 
 -- A state that runs: IRCR is 0, IAR is not T, and its cell is not empty.
-status_running : (a b c : Bool) → cond a (cond (b || c) Status.ended running) Status.failed ≡ running →
-    (a ≡ true) × (b ≡ false) × (c ≡ false)
-status_running true true c h = (cc, cc, cc)
-status_running true false true h = (cc, cc, cc)
-status_running true false false h = (refl, refl, refl)
-status_running false b c h = (cc, cc, cc)
-
 pub record Running (e : Environment) (s : State) : Type 0 where
   pub ircr : s.ircr ≡ 0
   pub iar : ¬ (s.iar ≡ e.parameters.t)
@@ -263,9 +253,7 @@ pub record Running (e : Environment) (s : State) : Type 0 where
 
 pub is_running : (e : Environment) (s : State) → state_status e s ≡ running → Running e s
 unfolding state_status
-is_running e s h =
-    let k = status_running (eqb s.ircr 0) (eqb s.iar e.parameters.t) (is_empty (current_cell e s)) h in
-    record { ircr = eqb-true s.ircr 0 k.0; iar = eqb-false s.iar e.parameters.t k.1; cell = k.2 }
+is_running e s h = search rules
 
 pub step_keeps : (e : Environment) → Fit e.parameters → image_fits e.parameters e.image ≡ true → (s : State) → Sound e s →
     state_status e s ≡ running → Sound e (step e s)

@@ -5,12 +5,13 @@ use mathlib.Core.Bool.{Bool, true, false}
 use mathlib.Core.Logic.{◌⊎◌, inl, inr}
 use native.Mathlib.Omega.{arith}
 use native.Mathlib.Decide.{dec_lt}
-use native.Mathlib.Nat.{le_refl, eq-or-lt_of_le, le_of_suc-le-suc}
+use native.Mathlib.Nat.{le_refl, eq-or-lt_of_le}
 use lib.ListN.{length}
 use borrow.Author.Tests.{ltb-false}
 use Rattle.model.specs.declared.Ending.{Ending}
 use Rattle.model.specs.declared.Ending.TheVariants.{OutputFull}
 use Rattle.model.specs.Machine.{Machine, Status, running, stops, goes, look, look_at, after, gathered, costs, Reaches, Largest, Priced}
+use Rattle.std.proofs.Common.{rules}
 
 -- What `look` says, read backwards.
 look-goes : (u : Status) (short crowded : Bool) → look u short crowded ≡ goes → (u ≡ running) × (short ≡ false) × (crowded ≡ false)
@@ -56,11 +57,7 @@ module _ (M : Machine) where
       go (inr l) ih = omega (arith, ih (omega arith))
 
   pub reaches-suc : (m : ℕ) → Reaches M m → status (after M m) ≡ running → Reaches M (suc m)
-  reaches-suc m r h i l = go (eq-or-lt_of_le (le_of_suc-le-suc l))
-    where
-      go : (i ≡ m) ⊎ (i < m) → status (after M i) ≡ running
-      go (inl e) = rw e h
-      go (inr k) = r i k
+  reaches-suc m r h i l = search rules
 
   -- Where the run is over, or the next step is too dear, m is the largest.
   pub largest : (m total : ℕ) → Reaches M m → costs M m ≤ total → (status (after M m) ≡ running → total - costs M m < cost (after M m)) → Largest M m total
@@ -90,8 +87,4 @@ module _ (M : Machine) where
     -- Nothing pays for nothing.
     pub largest-none : Largest M 0 0
     unfolding gathered
-    largest-none = record { reaches = λ i l. absurd (omega arith); fits = le_refl 0; most = λ n r f. go n r f (dec_lt 0 n) }
-      where
-        go : (n : ℕ) → Reaches M n → costs M n ≤ 0 → Dec (0 < n) → n ≤ 0
-        go n r f (yes l) = absurd (omega (arith, costs_lt 0 n r l))
-        go n r f (no k) = omega arith
+    largest-none = search rules

@@ -8,7 +8,6 @@ use native.Mathlib.Nat.{zero-add}
 use native.Mathlib.Omega.{arith}
 use lib.Dec.{eqb, leb}
 use lib.ListN.{length}
-use borrow.Author.Tests.{le-leb, lt-leb, ne_eqb}
 use Rattle.model.specs.declared.Parameters.{Parameters}
 use Rattle.model.specs.Load.{Accepted, Refused}
 use Rattle.model.specs.Parameters.{Check, refusal_of, parameter_checks}
@@ -17,6 +16,7 @@ use Rattle.model.specs.Instructions.{row_of}
 use Rattle.model.specs.Load.{allows, argument, arguments_from, Checked, fault, fine, first_fault, headed, is_within, line_cell, line_of, lines, lines_reply, load_checks, load_line, load_lines, LoadNumbers, load_numbers, load_refusal, load_reply, lookup, numbers_of_load, checked_argument, right_lines, text_checks, text_reply, words}
 use Rattle.model.proofs.Fits.{by_cond, Numbered, all_fit, refusal-first, refusal-later, numbered_append, parameters-numbered}
 use Rattle.model.proofs.Refusals.{load-refused-first}
+use Rattle.std.proofs.Common.{rules}
 
 -- FAULTS ARE NUMBERED FROM 11 ON
 abbrev Late : {A : Type 0} → Checked A → Type 0
@@ -70,11 +70,11 @@ shown-accepted n i = refl
 
 shown-early : (k n i : ℕ) → suc k < 11 → load_numbers (Refused (suc k) 0) ≡ shown (suc k) n i
 unfolding load_numbers
-shown-early k n i h = rw (ne_eqb (suc k) 0 (λ e. absurd (omega arith)), lt-leb 11 (suc k) h) refl
+shown-early k n i h = search rules
 
 shown-late : (k n i : ℕ) → 11 ≤ k → load_numbers (Refused k i) ≡ shown k n i
 unfolding load_numbers
-shown-late k n i h = rw (ne_eqb k 0 (λ e. absurd (omega arith)), le-leb 11 k h) refl
+shown-late k n i h = search rules
 
 same : {n m i j : ℕ} (r : ℕ) → n ≡ m → i ≡ j → shown r n i ≡ shown r m j
 same r e q = λ x. shown r (e x) (q x)
@@ -120,7 +120,7 @@ module _ (p : Parameters) (text old : List ℕ) where
 
   by_number : {r : ℕ} → load_refusal p text old ≡ r → shown r (length (lines text)) (right_lines p (lines text)) ≡ numbers_of_load p text old
   unfolding load_lines load_line
-  by_number e = ap (λ (r : ℕ). shown r (length (lines text)) (right_lines p (lines text))) (sym e)
+  by_number e = search rules
 
   early : (k : ℕ) → refusal_of (text_checks p text old) ≡ suc k → load_refusal p text old ≡ suc k
   unfolding load_refusal

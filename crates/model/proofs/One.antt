@@ -4,7 +4,6 @@ use mathlib.Core.Path.{◌≡◌, refl, sym, ap, ◌∙◌}
 use mathlib.Core.List.{◌++◌, append_assoc, append-nil}
 use mathlib.Core.Logic.{◌⊎◌, inl, inr}
 use native.Mathlib.Omega.{arith}
-use native.Mathlib.Decide.{dec_lt}
 use native.Mathlib.Nat.{le_refl, eq-or-lt_of_le, le_of_suc-le-suc}
 use lib.ListN.{length, take, length-append}
 use lib.Seq.{take-append_seam}
@@ -16,6 +15,8 @@ use Rattle.model.specs.Machine.{Machine, stops, goes, after, gathered, outputs, 
 use Rattle.model.specs.Grants.{Call, Result, RunState, Stop, beginning, advance, look_from, run, hand_back, accept, look_after, Runs, account_at}
 use Rattle.model.proofs.Laws.{going, look-stops, reaches-suc, largest}
 use Rattle.model.proofs.Loop.{run_keeps, run_looks}
+use Rattle.std.proofs.lemmas.Grind.{common_steps}
+use Rattle.std.proofs.Common.{rules}
 
 module _ (M : Machine) where
   open M use {St, fresh, status, cost, values, step}
@@ -35,9 +36,7 @@ module _ (M : Machine) where
     -- What it sees there is what is worked out.
     look-after-at : (a : RunState St) (r : Reached a) → look_after M granted room m r.n ≡ look_from M granted room a
     unfolding look_after
-    look-after-at a r =
-        let e : length (outputs M r.n) - length (outputs M m) ≡ length a.written = omega (arith, simp length-append at (ap length r.written)) in
-        rw (e, r.state, r.spent)
+    look-after-at a r = grind (arith, common_steps)
 
     advance-reaches : (a : RunState St) → Reached a → look_from M granted room a ≡ goes → Reached (advance M a)
     unfolding after gathered advance
@@ -115,21 +114,5 @@ module _ (M : Machine) where
       (run_keeps M granted room (Reached granted room m) (advance-reaches granted room m) begin begun) (run_looks M priced granted room begin)
 
   -- Where a grant stops, and how, is one thing.
-  runs-place : (granted room m n n₂ : ℕ) (e e₂ : Ending) → Runs M granted room m n e → Runs M granted room m n₂ e₂ → n < n₂ → ⊥
-  runs-place granted room m n n₂ e e₂ a b l =
-      let on = b.on n a.forward l in
-      let off = a.off in
-      let z : ◌≡◌ {A = ℕ} 0 1 = cc in
-      omega arith
-
   pub runs-only : (granted room m n n₂ : ℕ) (e e₂ : Ending) → Runs M granted room m n e → Runs M granted room m n₂ e₂ → (n ≡ n₂) × (e ≡ e₂)
-  runs-only granted room m n n₂ e e₂ a b =
-      let p : n ≡ n₂ = place (dec_lt n n₂) (dec_lt n₂ n) in
-      let off = a.off in
-      let off₂ = b.off in
-      (p, cc)
-    where
-      place : Dec (n < n₂) → Dec (n₂ < n) → n ≡ n₂
-      place (yes l) d = absurd (runs-place granted room m n n₂ e e₂ a b l)
-      place (no k) (yes l) = absurd (runs-place granted room m n₂ n e₂ e b a l)
-      place (no k) (no l) = omega arith
+  runs-only granted room m n n₂ e e₂ a b = search rules

@@ -1,21 +1,22 @@
 -- What an instruction writes is within -M..M-1. Assumes nothing.
-use Prim.Native.Nat.{ℕ, zero, suc, ◌+◌, ◌*◌, ◌-◌, ◌/◌, ◌^◌, ◌≤◌, ◌<◌}
+use Prim.Native.Nat.{ℕ, zero, suc, ◌+◌, ◌*◌, ◌/◌, ◌^◌, ◌≤◌, ◌<◌}
 use mathlib.Core.Path.{◌≡◌, refl}
-use mathlib.Core.Bool.{Bool, true, false, not, ◌&&◌, cond}
+use mathlib.Core.Bool.{Bool, true, false, not, cond}
 use mathlib.Core.List.{List, [], ◌∷◌}
-use native.Mathlib.Nat.{mod-lt, lt_of_le_of_lt}
+use native.Mathlib.Nat.{mod-lt}
 use native.Mathlib.Omega.{arith}
 use lib.Bits.{bit_and, bit_or, bit_xor, and_lt, or_lt, xor_lt}
 use lib.Dec.{leb, ltb}
 use lib.IntN.{ℤ, pos, negsuc}
 use lib.ListN.{get_or, set, replicate}
-use lib.Signed.{mag, le_z, lt_z, rem_z, mag_rem}
-use borrow.Author.Tests.{ltb-true, ltb-false, lt-ltb, leb-true, le-leb}
-use Rattle.model.specs.Parameters.{in_range, eq_z, boolean_of, is_true, is_boolean, limit}
+use lib.Signed.{mag, le_z, lt_z}
+use borrow.Author.Tests.{ltb-true, lt-ltb, leb-true, le-leb}
+use Rattle.model.specs.Parameters.{in_range, eq_z, boolean_of, limit}
 use Rattle.model.specs.Arithmetic.{Answer, value, code, checked, divide, remainder, negation, logic, bits_of, signed_of, inverted, bitwise, shift_left, shift_right, shift_right_signed}
 use Rattle.model.specs.Instructions.{Operation, clear_registers, clear_cells, dump_registers, dump_cells, inputs, outputs, pushes, pops, skips, idles, writes, jumps, jumps_on, Row, rows, row_of}
 use Rattle.model.specs.Calls.{all_in_range}
 use Rattle.model.proofs.Fits.{both, and_both, by_cond, limit-low, limit-double}
+use Rattle.std.proofs.Common.{rules}
 
 -- A value is in range where its `mag` is below M: n for n, and n for -(n + 1).
 pub range-mag : (m : ℕ) (z : ℤ) → 1 ≤ m → in_range m z ≡ true → mag z < m
@@ -37,7 +38,7 @@ Good m (code k) = (1 ≤ k) × (k ≤ 3)
 module _ (m : ℕ) (one : 1 ≤ m) where
   pub checked-good : (z : ℤ) → Good m (checked m z)
   unfolding checked
-  checked-good z = by_cond (Good m) (in_range m z) (value z) (code 1) (range-mag m z one) (λ h. omega arith)
+  checked-good z = search rules
 
   pub divide-good : (x y : ℤ) → Good m (divide m x y)
   unfolding divide
@@ -45,7 +46,7 @@ module _ (m : ℕ) (one : 1 ≤ m) where
 
   pub remainder-good : (x y : ℤ) → mag x < m → Good m (remainder x y)
   unfolding remainder
-  remainder-good x y h = by_cond (Good m) (eq_z y (pos 0)) (code 2) (value (rem_z x y)) (λ k. omega arith) (λ k. lt_of_le_of_lt (mag_rem x y) h)
+  remainder-good x y h = search rules
 
   pub boolean-mag : (b : Bool) → mag (boolean_of b) < m
   boolean-mag true = one
@@ -53,15 +54,11 @@ module _ (m : ℕ) (one : 1 ≤ m) where
 
   pub negation-good : (x : ℤ) → Good m (negation x)
   unfolding negation
-  negation-good x =
-      let b = not (is_true x) in
-      by_cond (Good m) (is_boolean x) (value (boolean_of b)) (code 1) (λ h. boolean-mag b) (λ h. omega arith)
+  negation-good x = search rules
 
   pub logic-good : (f : Bool → Bool → Bool) (x y : ℤ) → Good m (logic f x y)
   unfolding logic
-  logic-good f x y =
-      let b = f (is_true x) (is_true y) in
-      by_cond (Good m) (is_boolean x && is_boolean y) (value (boolean_of b)) (code 1) (λ h. boolean-mag b) (λ h. omega arith)
+  logic-good f x y = search rules
 
   -- K bits, and back.
   pub bits_lt : (z : ℤ) → mag z < m → bits_of m z < 2 * m
@@ -71,11 +68,7 @@ module _ (m : ℕ) (one : 1 ≤ m) where
 
   pub signed-mag : (u : ℕ) → u < 2 * m → mag (signed_of m u) < m
   unfolding signed_of
-  signed-mag u h = go (ltb u m) refl
-    where
-      go : (b : Bool) → ltb u m ≡ b → mag (cond b (pos u) (negsuc (2 * m - suc u))) < m
-      go true e = ltb-true u m e
-      go false e = let k = ltb-false u m e in omega arith
+  signed-mag u h = search rules
 
   pub inverted_lt : (u : ℕ) → inverted m u < 2 * m
   inverted_lt u = omega arith

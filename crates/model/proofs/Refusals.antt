@@ -1,6 +1,6 @@
 -- Demand 1 over the definitions: a refused call gives its number and changes nothing in the record or any lent buffer. Assumes nothing.
-use Prim.Native.Nat.{ℕ, zero, suc, ◌<◌}
-use mathlib.Core.Path.{◌≡◌, refl}
+use Prim.Native.Nat.{ℕ, suc, ◌<◌}
+use mathlib.Core.Path.{◌≡◌}
 use mathlib.Core.List.{List}
 use lib.IntN.{ℤ}
 use lib.ListN.{length}
@@ -14,6 +14,7 @@ use Rattle.model.specs.Load.{load_checks, load_reply, image_after}
 use Rattle.model.specs.Grants.{Call, hand_back, refuse, accept, grant}
 use Rattle.model.specs.Step.{Environment, Memory}
 use Rattle.model.specs.Calls.{Held, start_checks, started, zero_record, grant_refusal, account_of, environment_for, granted, outcome_number, spelled}
+use Rattle.std.proofs.Common.{rules}
 
 pub load-refused : (p : Parameters) (text old : List ℕ) (k i : ℕ) → load_reply p text old ≡ load.Refused k i →
     image_after p text old (load_reply p text old) ≡ old
@@ -34,11 +35,7 @@ module _ (e : Environment) (m : Memory) where
   -- Start's number is that of its checks.
   pub start-number : (started e m).reply.refusal ≡ refusal_of (start_checks e m)
   unfolding started
-  start-number = go (refusal_of (start_checks e m)) refl
-    where
-      go : (k : ℕ) → refusal_of (start_checks e m) ≡ k → (started e m).reply.refusal ≡ k
-      go zero h = rw (h, started)
-      go (suc k) h = rw (h, started)
+  start-number = search rules
 
 module _ (e : Environment) (held : Held) (c : Call) where
   abbrev refusal : ℕ
@@ -57,11 +54,7 @@ module _ (e : Environment) (held : Held) (c : Call) where
   -- Grant's number is that of its checks, 0 where it is accepted.
   pub grant-number : outcome_number (granted e held c).reply.outcome ≡ refusal
   unfolding outcome_number granted grant accept hand_back refuse
-  grant-number = go refusal refl
-    where
-      go : (k : ℕ) → refusal ≡ k → outcome_number (granted e held c).reply.outcome ≡ k
-      go zero h = rw (h, grant)
-      go (suc k) h = rw (h, grant)
+  grant-number = search rules
 
 pub decimal-refused : (z : ℤ) (old : List ℕ) → length old < longest_decimal →
     spelled z old ≡ record { reply = record { refusal = 18; count = 0 }; bytes = old }

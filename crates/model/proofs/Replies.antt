@@ -1,8 +1,7 @@
 -- A refusal that the code answers is the one that the definitions reply. Assumes nothing.
-use Prim.Native.Nat.{ℕ, zero, suc, ◌<◌}
+use Prim.Native.Nat.{ℕ, suc, ◌<◌}
 use mathlib.Core.List.{List}
-use mathlib.Core.Path.{◌≡◌, refl, sym, ap, ◌∙◌}
-use native.Mathlib.Omega.{arith}
+use mathlib.Core.Path.{◌≡◌, sym, ap, ◌∙◌}
 use lib.IntN.{ℤ}
 use lib.ListN.{length}
 use Rattle.std.specs.Prelude.{Result as Answer, Ok, Err, IsErr, IsErrAnd}
@@ -21,14 +20,11 @@ use Rattle.model.specs.Replies.{refusal_number_of, refusal_number, load_answer, 
 use Rattle.model.specs.Grants as outcome
 use Rattle.model.specs.Load as load
 use Rattle.model.proofs.Refusals as refused
+use Rattle.std.proofs.Common.{rules}
 
 -- No refusal has the number 0.
 pub positive : (r : Refusal) → ¬ (refusal_number_of r ≡ 0)
-positive r =
-    elim r as (λ k. ¬ (refusal_number_of k ≡ 0)) [
-      | refusal.ParameterK ↦ λ e. absurd (omega (arith, e))
-      | _ ↦ λ e. absurd (omega (arith, e))
-    ]
+positive r = search rules
 
 -- An error that `?` hands on keeps its number.
 pub handed-on : {A : Type 0} (r : Answer A Refusal) (x : Refusal) → IsErr r × IsErrAnd r (λ e. e ≡ x) → {n : ℕ} → refusal_number_of x ≡ n → refusal_number r ≡ n
@@ -37,11 +33,7 @@ handed-on (Err e) x h q = ap refusal_number_of h.1 ∙ q
 
 -- By its number, which is no 0.
 by-number : {A : Type 0} (r : Refusal) (f : ℕ → A) {a : A} → ((k : ℕ) → refusal_number_of r ≡ suc k → a ≡ f (suc k)) → f (refusal_number_of r) ≡ a
-by-number r f {a} h = go (refusal_number_of r) refl
-  where
-    go : (k : ℕ) → refusal_number_of r ≡ k → f (refusal_number_of r) ≡ a
-    go zero q = absurd (positive r q)
-    go (suc k) q = ap f q ∙ sym (h k q)
+by-number r f {a} h = search rules
 
 pub load-answered : (p : Parameters) (text old : List ℕ) (r : Refusal) → refusal_of (load_checks p text old) ≡ refusal_number_of r →
     load_answer (Err (record { refusal = r; line = 0 })) ≡ load_reply p text old

@@ -1,12 +1,13 @@
 -- SHR between B-1 and S-1: raised, lowered and read. Assumes nothing.
 use Prim.Native.Nat.{ℕ, zero, suc, ◌≤◌}
 use mathlib.Core.Path.{◌≡◌, refl}
-use mathlib.Core.Bool.{Bool, true, false}
+use mathlib.Core.Bool.{true, false}
 use native.Mathlib.Omega.{arith}
-use lib.IntN.{ℤ, pos, negsuc, suc_ℤ, pred_ℤ, ◌-ℤ◌, -ℤ_one}
+use lib.IntN.{ℤ, pos, negsuc, suc_ℤ, pred_ℤ, ◌-ℤ◌}
 use lib.Signed.{mag, le_z}
 use borrow.Author.Tests.{leb-true, le-leb, eqb-false}
 use Rattle.model.specs.Parameters.{eq_z}
+use Rattle.std.proofs.Common.{rules}
 
 pub raised-low : (a z : ℤ) → le_z a z ≡ true → le_z a (suc_ℤ z) ≡ true
 raised-low (pos a) (pos z) h = let k = leb-true a z h in le-leb a (suc z) (omega arith)
@@ -16,18 +17,7 @@ raised-low (negsuc a) (negsuc zero) h = refl
 raised-low (negsuc a) (negsuc (suc z)) h = let k = leb-true (suc z) a h in le-leb z a (omega arith)
 
 pub raised-high : (s : ℕ) (z : ℤ) → le_z z (pos s -ℤ pos 1) ≡ true → eq_z (suc_ℤ z) (pos s) ≡ false → le_z (suc_ℤ z) (pos s -ℤ pos 1) ≡ true
-raised-high s z h e = rw -ℤ_one (go s z (rw -ℤ_one at h) e)
-  where
-    go : (s : ℕ) (z : ℤ) → le_z z (pred_ℤ (pos s)) ≡ true → eq_z (suc_ℤ z) (pos s) ≡ false → le_z (suc_ℤ z) (pred_ℤ (pos s)) ≡ true
-    go zero (pos n) h e = cc
-    go zero (negsuc zero) h e = cc
-    go zero (negsuc (suc n)) h e = le-leb 0 n (omega arith)
-    go (suc s) (pos n) h e =
-        let k = leb-true n s h in
-        let d = eqb-false (suc n) (suc s) e in
-        le-leb (suc n) s (omega arith)
-    go (suc s) (negsuc zero) h e = le-leb 0 s (omega arith)
-    go (suc s) (negsuc (suc n)) h e = refl
+raised-high s z h e = search rules
 
 pub lowered-high : (z b : ℤ) → le_z z b ≡ true → le_z (pred_ℤ z) b ≡ true
 lowered-high (pos zero) (pos b) h = refl
@@ -55,22 +45,7 @@ lowered-low (negsuc a) (negsuc z) h e =
     le-leb (suc z) a (omega arith)
 
 pub head-mag : (b s : ℕ) (z : ℤ) → le_z (pos b -ℤ pos 1) z ≡ true → le_z z (pos s -ℤ pos 1) ≡ true → mag z ≤ s
-head-mag b s z h k = go b s z (rw -ℤ_one at h) (rw -ℤ_one at k)
-  where
-    none : ◌≡◌ {A = Bool} false true → ⊥
-    none e = let z : ◌≡◌ {A = ℕ} 0 1 = cc in omega arith
-
-    go : (b s : ℕ) (z : ℤ) → le_z (pred_ℤ (pos b)) z ≡ true → le_z z (pred_ℤ (pos s)) ≡ true → mag z ≤ s
-    go b zero (pos n) h k = absurd (none k)
-    go b (suc s) (pos n) h k = let l = leb-true n s k in omega arith
-    go zero s (negsuc n) h k = let l = leb-true n 0 h in omega arith
-    go (suc b) s (negsuc n) h k = absurd (none h)
+head-mag b s z h k = search rules
 
 pub heads : (b s : ℕ) → b ≤ s → le_z (pos b -ℤ pos 1) (pos s -ℤ pos 1) ≡ true
-heads b s h = simp -ℤ_one (go b s h)
-  where
-    go : (b s : ℕ) → b ≤ s → le_z (pred_ℤ (pos b)) (pred_ℤ (pos s)) ≡ true
-    go zero zero h = refl
-    go zero (suc s) h = refl
-    go (suc b) zero h = absurd (omega arith)
-    go (suc b) (suc s) h = le-leb b s (omega arith)
+heads b s h = search rules

@@ -88,7 +88,8 @@ impl From<Refusal> for u32 {
     }
 }
 
-// Why a text is not loaded, and the faulty line's index, 0 where it is no line's fault.
+// Why a text is not loaded, and the faulty line's index. No Option: the index, 0 where it is no line's fault, is the number that callers get as it
+// stands.
 #[derive(Clone, Copy, Debug, PartialEq, Eq)]
 pub struct LoadError {
     pub refusal: Refusal,
@@ -138,7 +139,7 @@ impl Record {
     {
         Record {
             parameters,
-            shr: (parameters.b as i64) - 1,
+            shr: i64::from(parameters.b) - 1,
             ..Record::default()
         }
     }

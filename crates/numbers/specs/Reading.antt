@@ -1,5 +1,5 @@
 -- What reading a number answers.
-use Rattle.std.specs.Prelude.{ℕ, ◌^◌, min, cond, [], ◌∷◌, ltb, leb, ℤ, pos, neg_ℤ, Option, Some, None, Result, Ok, Err}
+use Rattle.std.specs.Prelude.{ℕ, ◌^◌, min, Bool, true, false, cond, [], ◌∷◌, ltb, leb, ℤ, pos, neg_ℤ, Option, Some, None, Result, Ok, Err}
 use Rattle.std.proofs.Math.Option as maybe
 use Rattle.std.proofs.Math.Option.{none, some}
 use Rattle.model.specs.Parameters.{in_range}
@@ -28,12 +28,8 @@ answer_of (Ok z) = value z
 answer_of (Err NotANumber) = code 1
 answer_of (Err Outside) = code 2
 
--- The number of digits behind no sign or a plus.
-abbrev pub positive_of : (m : ℕ) → Option ℕ → Result ℤ NumberError
-positive_of m None = Err NotANumber
-positive_of m (Some v) = cond (ltb v m) (Ok (pos v)) (Err Outside)
-
--- The number of digits behind a minus.
-abbrev pub negative_of : (m : ℕ) → Option ℕ → Result ℤ NumberError
-negative_of m None = Err NotANumber
-negative_of m (Some v) = cond (leb v m) (Ok (neg_ℤ (pos v))) (Err Outside)
+-- The number of digits behind a minus, which is the flag, or behind no sign or a plus.
+abbrev pub signed_of : (m : ℕ) → Bool → Option ℕ → Result ℤ NumberError
+signed_of m minus None = Err NotANumber
+signed_of m true (Some v) = cond (leb v m) (Ok (neg_ℤ (pos v))) (Err Outside)
+signed_of m false (Some v) = cond (ltb v m) (Ok (pos v)) (Err Outside)

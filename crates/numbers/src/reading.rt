@@ -2,7 +2,7 @@
 ghost use Rattle.std.specs.Prelude.{◌≡◌, ℕ, ◌+◌, ◌-◌, ◌*◌, ◌^◌, ◌≤◌, true, min, length};
 ghost use Rattle.model.specs.Numbers.{is_digit, digits_from, natural, number};
 ghost use Rattle.model.specs.Step.{input_number};
-ghost use Rattle.numbers.specs.Reading.{capped, sign_length, positive_of, negative_of, reading_of, answer_of};
+ghost use Rattle.numbers.specs.Reading.{capped, sign_length, signed_of, reading_of, answer_of};
 
 use text::bytes::is_digit;
 
@@ -21,8 +21,7 @@ fn append_digit(n: u64, b: u8) -> u64
     requires { (n ≤ 2 ^ 30) × (is_digit b ≡ true) }
     ensures { result ≡ min (2 ^ 30) (n * 10 + (b - 48)) }
 {
-    let v = n * 10 + (b as u64 - 48);
-    if v < CAP { v } else { CAP }
+    (n * 10 + (u64::from(b) - 48)).min(CAP)
 }
 
 // Behind digits whose value is CAP or more only the form counts.
@@ -53,6 +52,7 @@ pub fn read_digits(w: &[u8]) -> Option<u64>
     }
     let digits = skip_zeros(w);
     let mut n: u64 = 0;
+    // Tried: a `while let` over `split_first`, whose rest needs no index. The compiled IN then had one instruction more for each byte of a token.
     for (i, &b) in digits.iter().enumerate() {
         if !is_digit(b) {
             return None;
@@ -65,37 +65,25 @@ pub fn read_digits(w: &[u8]) -> Option<u64>
     Some(n)
 }
 
-// The number of digits behind no sign or a plus.
-fn positive(digits: Option<u64>, m: u32) -> Result<i32, NumberError>
+// The number of digits behind a sign, or behind none. -m is a number of the range, and m is none.
+fn signed(digits: Option<u64>, is_negative: bool, m: u32) -> Result<i32, NumberError>
     requires { m ≤ 2 ^ 29 }
-    ensures { result ≡ positive_of m digits }
+    ensures { result ≡ signed_of m is_negative digits }
 {
     let v = digits.ok_or(NumberError::NotANumber)?;
-    if v < m as u64 {
-        Ok(v as i32)
-    } else {
-        Err(NumberError::Outside)
+    let end = u64::from(m) + u64::from(is_negative);
+    if end <= v {
+        return Err(NumberError::Outside);
     }
-}
-
-// The number of digits behind a minus. Not one function for both signs: -m is a number of the range, and m is none.
-fn negative(digits: Option<u64>, m: u32) -> Result<i32, NumberError>
-    requires { m ≤ 2 ^ 29 }
-    ensures { result ≡ negative_of m digits }
-{
-    let v = digits.ok_or(NumberError::NotANumber)?;
-    if v <= m as u64 {
-        Ok(-(v as i32))
-    } else {
-        Err(NumberError::Outside)
-    }
+    let size = v as i32;
+    Ok(if is_negative { -size } else { size })
 }
 
 // 1 for a byte that is a sign.
 fn sign_length(b: u8) -> usize
     ensures { result ≡ sign_length b }
 {
-    if matches!(b, b'+' | b'-') { 1 } else { 0 }
+    usize::from(matches!(b, b'+' | b'-'))
 }
 
 // The word as a number of -m..m-1.
@@ -106,9 +94,5 @@ pub fn read_number(w: &[u8], m: u32) -> Result<i32, NumberError>
 {
     let &b = w.first().ok_or(NumberError::NotANumber)?;
     let digits = read_digits(&w[sign_length(b)..]);
-    if b == b'-' {
-        negative(digits, m)
-    } else {
-        positive(digits, m)
-    }
+    signed(digits, b == b'-', m)
 }

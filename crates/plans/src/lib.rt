@@ -17,8 +17,9 @@ use text::tokens::next_token;
 const SHR_WORD: u32 = FIRST_REGISTER + SHR;
 
 // A value, where it goes, and where the machine stands after the step. A failing step has its code in `next.ircr`, and nothing else counts.
-// `to` is the word of a register or data cell, or one of the targets below, which are smaller: no enum, since an instruction's word goes there as it
-// stands, and operands read through an enum ran at less than half the speed.
+// No Result: a choice between two plans made the compiled loop wait for each result (docs/DECISIONS.md, "What a failing plan holds").
+// `to` is the word of a register or data cell, or one of the targets below, which are smaller. No enum: an instruction's word goes there as it stands,
+// and `effects::write` finds the slice by one subtraction and test, where an enum would have to be made of it and taken apart again.
 #[derive(Clone, Copy)]
 pub struct Plan {
     pub value: i32,
@@ -41,8 +42,8 @@ impl Plan {
     pub const OUTPUT: u32 = 6;
 }
 
-// A value goes somewhere, and IAR is raised. That IAR is T at most is asked here and below, and no fact of the type Core: a core of this type would be
-// made anew, and proved, at each step, where the engine knows it of every state.
+// A value goes somewhere, and IAR is raised. That IAR is T at most is asked here and below. No ghost bounds: a plan's IAR is raised by one, so that a
+// bound kept in the type would ask more of each caller than these clauses.
 #[tactic(auto, unfolding(crate::specs::Plans::written_plan))]
 pub fn store(to: u32, value: i32, at: Core) -> Plan
     requires { at.iar ≤ max_instructions }
@@ -67,7 +68,7 @@ pub fn keep(at: Core) -> Plan
     store(Plan::NOWHERE, 0, at)
 }
 
-// IRCR is set, and no more.
+// IRCR is set, and no more. The code is a number: IRCR is one of the record, and 1 to 3 mean another thing at each instruction.
 #[tactic(auto, unfolding(crate::specs::Plans::failed_plan))]
 pub fn fail(code: u32, at: Core) -> Plan
     ensures { result ≡ failed_plan code at }
@@ -178,13 +179,11 @@ pub fn input(w: u32, m: u32, at: Core, bytes: &[u8]) -> Plan
     requires iar_le_max_instructions { (at.iar ≤ max_instructions) × (at.place ≤ length bytes.now) }
     ensures { result ≡ input_plan w m at bytes.now }
 {
-    let token = next_token(bytes, at.place);
-    let start = token.start;
-    let end = token.end;
-    if start == end {
+    let Some(token) = next_token(bytes, at.place) else {
         return fail(3, at);
-    }
-    match read_number(&bytes[start..end], m) {
+    };
+    let end = token.end;
+    match read_number(&bytes[token.start..end], m) {
         Ok(value) => store(w, value, Core { place: end, ..at }),
         Err(NumberError::NotANumber) => fail(1, at),
         Err(NumberError::Outside) => fail(2, at),

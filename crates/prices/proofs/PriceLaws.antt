@@ -74,17 +74,7 @@ times-cells p (suc (suc (suc zero))) k l h = absurd (h refl)
 times-cells p (suc (suc (suc (suc zero)))) k l h = refl
 times-cells p (suc (suc (suc (suc (suc n))))) k l h = absurd (omega arith)
 
--- A product of two words.
-pub product-fits : {a b : ℕ} → a < 2 ^ 32 → b < 2 ^ 32 → Fits w64 (a * b)
-product-fits {a} {b} h k =
-    let h' : a ≤ 2 ^ 32 - 1 = omega arith in
-    let k' : b ≤ 2 ^ 32 - 1 = omega arith in
-    record { fits = lt_of_le_of_lt (mul-le-mul h' k') (omega arith) }
-
 -- DIRECT ARGUMENTS. No more of them than places that allow one, and a price for each count.
-pub direct-small : (w : ℕ) → is_direct w ≤ 1
-direct-small w = by_cond (λ (x : ℕ). x ≤ 1) (eqb (kind_of w) direct_kind) 1 0 (λ h. omega arith) (λ h. omega arith)
-
 abbrev direct_words : List ℕ → ℕ
 direct_words [] = 0
 direct_words (w ∷ ws) = is_direct w + direct_words ws

@@ -1,4 +1,4 @@
-// The prices of the instructions, as a table that a call makes once and lends, and the values that they write.
+// The prices of the instructions, as a list that a call lends, and the values that they write.
 #![tactic(auto)]
 
 ghost use Rattle.std.specs.Prelude.{◌≡◌, true, ◌≤◌, ◌<◌, eqb, length, get_or};
@@ -22,18 +22,26 @@ const ONE_DIRECT: u32 = INSTRUCTIONS - 5;
 
 const TWO_DIRECT: usize = ENTRIES - 1;
 
-// By number, from 1 on, for no direct argument; then for one, IN, OUT, MOV, SET, PUSH and POP; then for two, MOV.
-const PRICES: [u32; ENTRIES] = [
+// By number, from 1 on, for no direct argument; then for one, IN, OUT, MOV, SET, PUSH and POP; then for two, MOV. An array, since nothing allocates.
+static PRICES: [u32; ENTRIES] = [
     1, 5, 51, 51, 51, 51, 2, 11, 8, 8, 1, 1, 1, 2, 2, 2, 2, 2, 1, 1, 4, 4, 10, 30, 30, 14, 14, 3,
     3, 3, 3, 3, 3, 4, 6, 6, 6, 6, 7, 7, 9, 9, 4, 1, 1, 2, 2, 2, 2, 2, 1, 1, 1, 1, 55, 55, 6, 16,
     12, 12, 10,
 ];
 
-// The table.
-pub fn price_table() -> [u32; ENTRIES]
-    ensures { result ≡ price_table }
-{
-    PRICES
+// The list of the prices, which a call lends.
+#[derive(Clone, Copy)]
+pub struct Prices<'a> {
+    list: &'a [u32],
+    ghost list_value: { list.now ≡ price_table },
+}
+
+impl Prices<'static> {
+    // Those of the instructions.
+    #[tactic(auto, unfolding(crate::specs::Prices::price_table))]
+    pub fn fixed() -> Self {
+        Prices { list: &PRICES }
+    }
 }
 
 fn is_direct(w: u32) -> bool
@@ -47,7 +55,7 @@ fn is_direct(w: u32) -> bool
 fn direct_arguments(i: Instruction) -> u32
     ensures { result ≡ directs (cell_from i) }
 {
-    is_direct(i.first) as u32 + is_direct(i.second) as u32 + is_direct(i.third) as u32
+    u32::from(is_direct(i.first)) + u32::from(is_direct(i.second)) + u32::from(is_direct(i.third))
 }
 
 // Where the price of one of the first ten stands in the table.
@@ -64,25 +72,27 @@ fn price_index(i: Instruction) -> usize
     }
 }
 
-// The cost of an instruction. Beyond the first ten none has a direct argument; prices of the first four are times N, S, N and S.
-pub fn cost(i: Instruction, p: Parameters, prices: &[u32]) -> u64
-    requires prices_value { prices.now ≡ price_table }
-    requires i_value { cell_fits p (cell_from i) ≡ true }
-    ensures { result ≡ cost_of p (cell_from i) }
-{
-    let number = i.number;
-    if 10 < number {
-        return prices[number as usize - 1] as u64;
-    }
-    let price = prices[price_index(i)] as u64;
-    match number {
-        1 | 3 => price * p.n as u64,
-        2 | 4 => price * p.s as u64,
-        _ => price,
+impl<'a> Prices<'a> {
+    // The cost of an instruction. Beyond the first ten none has a direct argument; prices of the first four are times N, S, N and S.
+    pub fn cost(self, i: Instruction, p: Parameters) -> u64
+        requires { cell_fits p (cell_from i) ≡ true }
+        ensures { result ≡ cost_of p (cell_from i) }
+    {
+        let number = i.number;
+        if 10 < number {
+            return u64::from(self.list[number as usize - 1]);
+        }
+        let price = u64::from(self.list[price_index(i)]);
+        match number {
+            1 | 3 => price * u64::from(p.n),
+            2 | 4 => price * u64::from(p.s),
+            _ => price,
+        }
     }
 }
 
 // How many values an instruction writes: most often none. Tested first and apart: with the match alone a counting loop takes a fifth longer.
+#[tactic(auto, unfolding(model::specs::Instructions::row_of))]
 pub fn value_count(number: u32, p: Parameters) -> usize
     ensures { result ≡ value_count p (row_of number).operation }
 {

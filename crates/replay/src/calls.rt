@@ -84,7 +84,7 @@ fn put_record(to: &mut Printer, rec: Record) {
     to.put(rec.spent);
 }
 
-// 1 failed, 2 ended, 3 paused, 4 output full. No `From`, since neither type is this crate's.
+// 1 failed, 2 ended, 3 paused, 4 output full, as the stored outputs have it; tak's numbers are the header's. No `From`: neither type is this crate's.
 fn ending_number(e: Ending) -> u64 {
     match e {
         Ending::Failed => 1,
@@ -179,7 +179,7 @@ impl<'a> Machine<'a> {
         to.put_values(out);
     }
 
-    // Changes a field of the record: the five parameters, then IAR, IRCR, SHR, the place, granted, spent.
+    // Changes a field of the record: the five parameters, then IAR, IRCR, SHR, the place, granted, spent. The stored cases have these numbers.
     fn set_field(&mut self, index: u64, v: u64) {
         let rec = &mut self.rec;
         match index {

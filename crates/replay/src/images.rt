@@ -1,37 +1,31 @@
 // What is printed of an image.
 ghost use Rattle.std.specs.Prelude.{◌≡◌, ◌*◌, length};
 ghost use Rattle.model.specs.Parameters.{Fit};
-ghost use Rattle.image.specs.Forms.{form_table};
-ghost use Rattle.prices.specs.Prices.{price_table};
 
 use crate::printer::Printer;
 use bounds::limits::{Limits, check_parameters};
 use image::check::image_fits;
 use image::decode::{Decoded, decode};
-use image::forms::form_table;
+use image::forms::FormTable;
 use image::words::{content, kind};
 use model::Parameters;
-use prices::{cost, price_table, value_count};
+use prices::{Prices, value_count};
 
 // The words' kinds and contents.
 fn put_words(to: &mut Printer, image: &[u32]) {
     for &word in image {
-        to.put(kind(word).number());
+        to.put(u32::from(kind(word)));
         to.put(content(word));
     }
     to.put_end();
 }
 
 // The cost of a cell's instruction and the count of the values that it writes; `-` for an empty cell, `!` for one that no text yields.
-fn put_cell(to: &mut Printer, cell: &[u32], limits: Limits, forms: &[u32], prices: &[u32])
-    requires cell_len { length cell.now ≡ 4 }
-    requires forms_value { forms.now ≡ form_table }
-    requires prices_value { prices.now ≡ price_table }
-{
+fn put_cell(to: &mut Printer, cell: &[u32; 4], limits: Limits, forms: &FormTable, prices: Prices) {
     let p = limits.parameters;
     match decode(cell, limits, forms) {
         Decoded::Runs(i) => {
-            to.put(cost(i, p, prices));
+            to.put(prices.cost(i, p));
             to.put(value_count(i.number, p));
         }
         Decoded::Empty => to.put_text(b"- "),
@@ -43,10 +37,11 @@ fn put_cells(to: &mut Printer, p: Parameters, image: &[u32])
     requires fit { Fit p }
 {
     let limits = Limits::new(p);
-    let forms = form_table();
-    let prices = price_table();
-    for cell in image.chunks_exact(4) {
-        put_cell(to, cell, limits, &forms, &prices);
+    let forms = FormTable::new();
+    let prices = Prices::fixed();
+    let (cells, _) = image.as_chunks::<4>();
+    for cell in cells {
+        put_cell(to, cell, limits, &forms, prices);
     }
     to.put_end();
 }

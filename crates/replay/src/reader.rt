@@ -18,10 +18,13 @@ impl<'a> Reader<'a> {
     pub fn word(&mut self) -> Option<&'a [u8]>
         ensures { MatchOption result (length self.new.rest.now ≤ length self.old.rest.now) (λ w. (0 < length w.now) × (length self.new.rest.now < length self.old.rest.now)) }
     {
-        let span = next_token(self.rest, 0);
-        let word = &self.rest[span.start..span.end];
-        self.rest = &self.rest[span.end..];
-        if word.is_empty() { None } else { Some(word) }
+        let Some(span) = next_token(self.rest, 0) else {
+            self.rest = &[];
+            return None;
+        };
+        let (passed, rest) = self.rest.split_at(span.end);
+        self.rest = rest;
+        Some(&passed[span.start..])
     }
 
     // The next number, 0 if it is missing.

@@ -1,6 +1,6 @@
 -- What the calls of a run write, one behind the other, is what document 01 says that `takrun` prints. Assumes nothing.
 use Prim.Native.Nat.{ℕ, zero, suc, ◌+◌, ◌*◌, ◌-◌, ◌<◌}
-use mathlib.Core.Bool.{Bool, true, false, false≢true}
+use mathlib.Core.Bool.{Bool, true, false}
 use mathlib.Core.List.{List, [], ◌∷◌, ◌++◌, append-nil}
 use mathlib.Core.Path.{◌≡◌, refl, sym, ap, ◌∙◌}
 use native.Mathlib.Omega.{arith}
@@ -8,7 +8,7 @@ use lib.Dec.{eqb, leb}
 use lib.IntN.{ℤ, pos}
 use lib.ListN.{length, take, replicate, length-replicate}
 use lib.Seq.{take-append_seam}
-use borrow.Author.Tests.{le-leb, eq-eqb, eqb-true}
+use borrow.Author.Tests.{le-leb, eqb-true}
 use Rattle.model.proofs.Fits.{limits, refusal-first, Sized}
 use Rattle.model.proofs.Lists as lists
 use Rattle.model.proofs.Refusals.{load-refused-first, grant-refused}
@@ -31,6 +31,8 @@ use Rattle.std.specs.Prelude.{Option, Some, None}
 use Rattle.session.specs.Runs.{Grants, last, next, Run, refused, granted as goes}
 use Rattle.session.specs.Sessions.{followed_by, start_line, Shows, Sizes, OpenBy, OpenIs, ReportIs}
 use Rattle.session.specs.declared.Report.{Report}
+use Rattle.std.proofs.lemmas.Grind.{common_steps}
+use Rattle.std.proofs.Common.{rules}
 
 -- The bytes that a call puts in front of the buffer.
 shows-text : {text lines₀ lines₁ : List ℕ} {end : ℕ} → Shows text lines₀ end lines₁ → take end lines₁ ≡ text
@@ -87,16 +89,7 @@ module _ (e : Environment) (n cycles : ℕ) (h : Held) where
 own_report : {e : Environment} {h : Held} {c : Call} {lines : List ℕ} {r : Report} {memory₁ : Memory} {values₁ : List ℤ} {lines₁ : List ℕ} →
     ReportIs (environment_for e h) h c lines r memory₁ values₁ lines₁ → ReportIs e h c lines r memory₁ values₁ lines₁
 unfolding granted
-own_report is =
-    record {
-      shows = is.shows;
-      next = is.next;
-      rec = is.rec;
-      memory = is.memory;
-      values = is.values;
-      size = is.size;
-      progress = is.progress;
-    }
+own_report is = search rules
 
 -- Whether a grant follows, and with which cycles.
 follows-none : (b : Bool) (n : ℕ) → followed_by b n ≡ None → b ≡ false
@@ -179,7 +172,7 @@ module _ (e : Environment) (m : Memory) where
 
   checks-alike : Sized p m → start_checks e m ≡ start_checks e (fresh_memory p)
   unfolding start_checks
-  checks-alike n = rw (n.register-count, n.cell-count, length-replicate p.n (pos 0), length-replicate p.s (pos 0))
+  checks-alike n = grind (arith, common_steps)
 
   start-alike : Sized p m → Same (started e m) (started e (fresh_memory p))
   unfolding started
@@ -191,19 +184,11 @@ module _ (e : Environment) (m : Memory) where
 
   pub start-fresh : (started e m).reply.refusal ≡ 0 → (started e m).reply.rec ≡ fresh_record p
   unfolding started
-  start-fresh = go (refusal_of (start_checks e m)) refl
-    where
-      go : (k : ℕ) → refusal_of (start_checks e m) ≡ k → (started e m).reply.refusal ≡ 0 → (started e m).reply.rec ≡ fresh_record p
-      go zero h = rw (started, h) (λ q. refl)
-      go (suc k) h = rw (started, h) (λ q. absurd (omega arith))
+  start-fresh = search rules
 
 -- A start that is refused, and one that is not.
 pub start-stops : (e : Environment) (s : Started) → eqb s.reply.refusal 0 ≡ false → start_lines e s ≡ start_line s.reply.refusal
-start-stops e s h = go s.reply.refusal refl
-  where
-    go : (k : ℕ) → s.reply.refusal ≡ k → start_lines e s ≡ start_line s.reply.refusal
-    go zero q = absurd (false≢true (sym h ∙ eq-eqb s.reply.refusal 0 q))
-    go (suc k) q = rw q
+start-stops e s h = search rules
 
 pub start-goes : (e : Environment) (s : Started) → s.reply.refusal ≡ 0 → start_lines e s ≡ grant_lines e (suc first_grant) first_grant (held_after_start s)
 start-goes e s q = rw q

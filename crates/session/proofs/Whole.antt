@@ -1,13 +1,11 @@
 -- What `takrun` prints needs no more of a text or an input than one byte over the limit. Assumes nothing.
-use Prim.Native.Nat.{ℕ, zero, suc, ◌*◌, ◌≤◌, ◌<◌}
+use Prim.Native.Nat.{ℕ, zero, suc, ◌*◌, ◌<◌}
 use mathlib.Core.Bool.{false, false≢true}
-use mathlib.Core.List.{List, [], ◌∷◌, ◌++◌, append-nil}
+use mathlib.Core.List.{List, [], ◌∷◌, ◌++◌}
 use mathlib.Core.Path.{◌≡◌, refl, sym, ap, ◌∙◌}
-use native.Mathlib.Decide.{dec_lt}
 use native.Mathlib.Omega.{arith}
-use lib.ListN.{length, take, replicate, take-append-drop, drop_of_length-le}
-use lib.Seq.{length-take-le}
-use borrow.Author.Tests.{le-leb, lt-leb, ne_eqb}
+use lib.ListN.{length, take, replicate}
+use borrow.Author.Tests.{lt-leb, ne_eqb}
 use Rattle.model.proofs.Fits.{all_fit, fit_right, numbered_append, parameters-numbered, grant-accepted}
 use Rattle.model.proofs.Refusals.{load-refused-first, grant-refused}
 use Rattle.machine.proofs.Demand.{input-unread}
@@ -23,6 +21,8 @@ use Rattle.model.specs.Load as load
 use Rattle.model.specs.declared.Parameters.{Parameters}
 use Rattle.model.specs.declared.Record.{Record}
 use Rattle.session.proofs.Printed.{lines-last, start-fresh, start-stops, start-goes, printed-refused, printed-loaded}
+use Rattle.std.proofs.lemmas.Grind.{common_steps}
+use Rattle.std.proofs.Common.{rules}
 
 -- A TEXT THAT IS TOO LONG is refused, whatever it says.
 load-long : (p : Parameters) (old a b : List ℕ) → max_text < length a → max_text < length b →
@@ -60,8 +60,7 @@ module _ (p : Parameters) (image : List ℕ) (h : Held) (fresh : h.rec.place ≡
 
   refusal-long : refusal x ≡ refusal y
   unfolding grant_refusal grant_checks start_checks record_fits
-  refusal-long =
-      rw (fresh, lt-leb (length x) max_input long-x, lt-leb (length y) max_input long-y, le-leb 0 (length x) (omega arith), le-leb 0 (length y) (omega arith))
+  refusal-long = search rules
 
   grant-long : (granted (lent x) h c ≡ granted (lent y) h c) × (is_full (granted (lent y) h c).reply.outcome ≡ false)
   grant-long = go (refusal y) refl
@@ -108,23 +107,10 @@ input-long par text x y long-x long-y = go (load_reply (settings par) text (repl
     go (load.Refused k i) e = printed-refused par text x k i e ∙ sym (printed-refused par text y k i e)
     go (load.Accepted n) e = printed-loaded par text x n e ∙ start-long (settings par) _ _ x y long-x long-y ∙ sym (printed-loaded par text y n e)
 
--- THE FILES. All of one that is within the limit, and one byte more than the limit of one that is not.
-take_all : (most : ℕ) (s : List ℕ) → length s ≤ most → take (suc most) s ≡ s
-take_all most s l =
-    let over : length s ≤ suc most = omega (arith, l) in
-    sym (append-nil _) ∙ ap (λ (rest : List ℕ). take (suc most) s ++ rest) (sym (drop_of_length-le s over)) ∙ take-append-drop (suc most) s
-
-long-part : (most : ℕ) (s : List ℕ) → most < length s → most < length (take (suc most) s)
-long-part most s l = rw (length-take-le (suc most) s (omega (arith, l))) (omega arith)
-
--- What depends on a file alike for all that are over the limit depends on that part of it.
+-- THE FILES. What depends on a file alike for all that are over the limit depends on that part of it: one byte more than the limit.
 by_part : (P : List ℕ → List ℕ) (most : ℕ) → ((a b : List ℕ) → most < length a → most < length b → P a ≡ P b) →
     (s : List ℕ) → P (take (suc most) s) ≡ P s
-by_part P most same s = go (dec_lt most (length s))
-  where
-    go : Dec (most < length s) → P (take (suc most) s) ≡ P s
-    go (yes l) = same (take (suc most) s) s (long-part most s l) l
-    go (no g) = ap P (take_all most s (omega (arith, g)))
+by_part P most same s = grind (arith, common_steps)
 
 -- The first 65,537 bytes of text and input give what the whole files give.
 pub whole_files : (par text input : List ℕ) → printed par (take (suc max_text) text) (take (suc max_input) input) ≡ printed par text input

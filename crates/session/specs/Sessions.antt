@@ -11,6 +11,7 @@ use Rattle.model.specs.Load as load
 use Rattle.model.specs.declared.Parameters.{Parameters}
 use Rattle.model.specs.declared.Record.{Record}
 use Rattle.model.specs.Parameters.{max_registers, max_cells, max_instructions}
+use Rattle.session.specs.Puts.{longest_line}
 use Rattle.session.specs.declared.Report.{Report}
 
 -- The cycles of the grant that follows, if one does.
@@ -67,9 +68,9 @@ module _ (p : Parameters) (text image₀ : List ℕ) (memory₀ : Memory) (lines
     pub by : OpenBy (load_reply p text image₀) r image₁ memory₁ lines₁
 
 -- A GRANT AND ITS LINES.
--- The bytes of the lines: at most 12 for a value, 80 for the last line.
+-- The bytes of the lines: at most 12 for a value, then those of the last line.
 abbrev pub lines_bytes : ℕ
-lines_bytes = 12 * slice_values + 80
+lines_bytes = 12 * slice_values + longest_line
 
 -- What a full output leaves, from the record `before` on: at least one cycle spent more, and the grants' cycles together are not used up.
 -- So 0 granted after each full output comes to an end.

@@ -7,9 +7,10 @@ ghost use Rattle.std.specs.Prelude.{None, Some, [], ◌≡◌, ◌+◌, ◌≤�
 ghost use Rattle.model.specs.Calls.{as_held, as_call, zero_record};
 ghost use Rattle.model.specs.Step.{as_memory, environment_of};
 ghost use Rattle.model.specs.Grants.{Stopped};
+ghost use Rattle.model.specs.Lines.{refusal_line};
 ghost use Rattle.model.specs.Program.{is_full, ending_lines, last_lines, slice_values};
-ghost use Rattle.model.specs.Replies.{grant_answer};
-ghost use Rattle.session.specs.Puts.{Put};
+ghost use Rattle.model.specs.Replies.{refusal_number_of, grant_answer};
+ghost use Rattle.session.specs.Puts.{longest_line, Put};
 ghost use Rattle.session.specs.Sessions.{Sizes, lines_bytes, followed_by, BeginIs, OpenIs, ReportIs};
 
 use crate::printing::{put_ending, put_refusal, put_values};
@@ -25,25 +26,17 @@ pub struct Report {
     pub next: Option<u64>,
 }
 
-// Lines behind which nothing follows.
-fn stop_after(count: usize, rec: Record) -> Report
-    ensures { result ≡ record { count = count; rec = rec; next = None } }
+// The line of a refused call, behind which nothing follows. That `lines` has room is asked here and below: it is a lent slice, or one behind the values'
+// lines, whose length no type has.
+fn refuse(refusal: Refusal, line: usize, rec: Record, lines: &mut [u8]) -> Report
+    requires { longest_line ≤ length lines.old }
+    ensures put { Put lines.old (refusal_line (refusal_number_of refusal) line) lines.new result.count }
+    ensures last { (result.next ≡ None) × (result.rec ≡ rec) }
 {
     Report {
-        count,
+        count: put_refusal(u32::from(refusal), line, lines),
         rec,
         next: None,
-    }
-}
-
-// Lines behind which a grant follows.
-fn grant_after(count: usize, rec: Record, cycles: u64) -> Report
-    ensures { result ≡ record { count = count; rec = rec; next = Some cycles } }
-{
-    Report {
-        count,
-        rec,
-        next: Some(cycles),
     }
 }
 
@@ -65,14 +58,18 @@ fn begin(
     cells: &mut [i32],
     lines: &mut [u8],
 ) -> Report
-    requires { 80 ≤ length lines.old }
+    requires { longest_line ≤ length lines.old }
     ensures begin_is { BeginIs (environment_of p image.now []) (as_memory registers.old cells.old) lines.old
         result (as_memory registers.new cells.new) lines.new }
     ensures within { result.count ≤ length lines.new }
 {
     match start(p, image, registers, cells) {
-        Ok(rec) => grant_after(0, rec, FIRST_GRANT),
-        Err(refusal) => stop_after(put_refusal(u32::from(refusal), 0, lines, 0), zero_record()),
+        Ok(rec) => Report {
+            count: 0,
+            rec,
+            next: Some(FIRST_GRANT),
+        },
+        Err(refusal) => refuse(refusal, 0, zero_record(), lines),
     }
 }
 
@@ -86,19 +83,14 @@ pub fn open(
     lines: &mut [u8],
 ) -> Report
     requires sizes { Sizes p image.old (as_memory registers.old cells.old) }
-    requires in_bounds { 80 ≤ length lines.old }
+    requires in_bounds { longest_line ≤ length lines.old }
     ensures open_is { OpenIs p text.now image.old (as_memory registers.old cells.old) lines.old
         result image.new (as_memory registers.new cells.new) lines.new }
     ensures within { result.count ≤ length lines.new }
 {
     match load(p, text, image) {
         Ok(_) => begin(p, image, registers, cells, lines),
-        Err(LoadError { refusal, line }) => {
-            stop_after(
-                put_refusal(u32::from(refusal), line, lines, 0),
-                Record::fresh(p),
-            )
-        }
+        Err(LoadError { refusal, line }) => refuse(refusal, line, Record::fresh(p), lines),
     }
 }
 
@@ -106,43 +98,40 @@ pub fn open(
 fn values_written(reply: Result<AcceptedGrant, Refusal>) -> usize
     ensures { (given : Record) → result ≡ (grant_answer given reply).values }
 {
-    match reply {
-        Ok(accepted) => accepted.values,
-        Err(_) => 0,
-    }
+    reply.map_or(0, |accepted| accepted.values)
 }
 
 // The last line, unless the output was full. What follows a full output is a grant of 0.
-fn finish_accepted(reply: AcceptedGrant, lines: &mut [u8], at: usize) -> Report
-    requires { at + 80 ≤ length lines.old }
-    ensures put { Put lines.old at (ending_lines reply.ending reply.rec) lines.new result.count }
+fn finish_accepted(reply: AcceptedGrant, lines: &mut [u8]) -> Report
+    requires { longest_line ≤ length lines.old }
+    ensures put { Put lines.old (ending_lines reply.ending reply.rec) lines.new result.count }
     ensures next_value { (result.next ≡ followed_by (is_full (Stopped reply.ending)) 0) × (result.rec ≡ reply.rec) }
 {
     let rec = reply.rec;
     let ending = reply.ending;
     if let Ending::OutputFull = ending {
-        return grant_after(at, rec, 0);
+        return Report {
+            count: 0,
+            rec,
+            next: Some(0),
+        };
     }
-    stop_after(
-        put_ending(ending, rec.ircr, rec.iar, rec.spent, lines, at),
+    Report {
+        count: put_ending(ending, rec.ircr, rec.iar, rec.spent, lines),
         rec,
-    )
+        next: None,
+    }
 }
 
-// Behind the values' lines the last line of a grant to the record `given`.
-fn finish(
-    given: Record,
-    reply: Result<AcceptedGrant, Refusal>,
-    lines: &mut [u8],
-    at: usize,
-) -> Report
-    requires { at + 80 ≤ length lines.old }
-    ensures put { let g = grant_answer given reply in Put lines.old at (last_lines g.outcome g.rec) lines.new result.count }
+// The last line of a grant to the record `given`.
+fn finish(given: Record, reply: Result<AcceptedGrant, Refusal>, lines: &mut [u8]) -> Report
+    requires { longest_line ≤ length lines.old }
+    ensures put { let g = grant_answer given reply in Put lines.old (last_lines g.outcome g.rec) lines.new result.count }
     ensures next_value { let g = grant_answer given reply in (result.next ≡ followed_by (is_full g.outcome) 0) × (result.rec ≡ g.rec) }
 {
     match reply {
-        Ok(accepted) => finish_accepted(accepted, lines, at),
-        Err(refusal) => stop_after(put_refusal(u32::from(refusal), 0, lines, at), given),
+        Ok(accepted) => finish_accepted(accepted, lines),
+        Err(refusal) => refuse(refusal, 0, given, lines),
     }
 }
 
@@ -166,5 +155,9 @@ pub fn run_grant(
     let reply = grant(rec, cycles, image, input, registers, cells, values);
     let count = values_written(reply);
     let at = put_values(&values[..count], lines);
-    finish(rec, reply, lines, at)
+    let last = finish(rec, reply, &mut lines[at..]);
+    Report {
+        count: at + last.count,
+        ..last
+    }
 }

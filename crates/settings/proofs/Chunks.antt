@@ -22,6 +22,7 @@ use Rattle.model.specs.Settings.{fields_from, fields, setting, all_settings, zer
 use Rattle.settings.specs.Scans.{unread, shifted, with_word, ended, extends, extended, scanned, scanned_all, scan_of, five_of, settings_of}
 use Rattle.settings.proofs.WordLaws.{digit-behind, settings_cons, fields-blank, fields_byte, Bad, bad-long, bad_other, bad-fields}
 use Rattle.settings.proofs.ScanLaws.{Void, room, ended-none, ended-word, ended-sixth, scanned-blank, scanned-digit, scanned-bad, scanned_void}
+use Rattle.std.proofs.Common.{rules}
 
 -- FIVE WORDS
 -- The parameters of k words, the last of which are p, and of those behind them.
@@ -96,7 +97,7 @@ finish-ended (b ∷ w) a h ws = go (dec_lt a.count 5)
 -- Before a word.
 holds-none : (p : Parameters) (k : ℕ) → Holds [] (record { last = p; count = k; digits = 0; value = 0 })
 unfolding digits_from
-holds-none p k = record { sized = refl; short = omega arith; valued = refl; small = omega arith }
+holds-none p k = search rules
 
 holds-ended : (w : List ℕ) (a r : Scan) → Holds w a → ended a ≡ Some r → Holds [] r
 holds-ended [] a r h e = let same : a ≡ r = cc (ended-none a (sym h.sized)) in subst (Holds []) same h

@@ -2,13 +2,12 @@
 use Prim.Native.Nat.{ℕ, ◌≤◌, ◌<◌}
 use mathlib.Core.Path.{◌≡◌}
 use mathlib.Core.Bool.{true, false}
-use lib.Dec.{ltb}
 use Rattle.std.specs.Prelude.{Option, Some, None}
-use borrow.Author.Tests.{eq-eqb, ne_eqb, lt-ltb, le-ltb, ltb-true}
+use borrow.Author.Tests.{eq-eqb, ne_eqb, lt-ltb, le-ltb}
 use Rattle.model.specs.Numbers.{is_blank, is_digit}
-use Rattle.model.proofs.Fits.{both, is-between}
 use Rattle.settings.specs.declared.Scan.{Scan}
 use Rattle.settings.specs.Scans.{with_word, ended, extends, extended, scanned}
+use Rattle.std.proofs.Common.{rules}
 
 module _ (a : Scan) where
   pub ended-none : a.digits ≡ 0 → ended a ≡ Some a
@@ -53,8 +52,4 @@ pub record Room (a : Scan) (b : ℕ) : Type 0 where
   pub value : a.value < 100_000_000
 
 pub room : (a : Scan) (b : ℕ) → extends a b ≡ true → Room a b
-room a b e =
-    let d = both (is_digit b) _ e in
-    let r = both (ltb a.digits 9) _ d.1 in
-    let in-range = is-between 48 57 b d.0 in
-    record { digit = d.0; low = in-range.0; high = in-range.1; digits = ltb-true _ _ r.0; value = ltb-true _ _ r.1 }
+room a b e = search rules

@@ -1,39 +1,47 @@
 -- A transfer behind a call. Assumes nothing.
 use Prim.Native.Nat.{ℕ, ◌-◌, ◌≤◌, ◌<◌}
-use mathlib.Core.Path.{◌≡◌}
+use mathlib.Core.Path.{◌≡◌, refl}
 use native.Mathlib.Omega.{arith}
 use lib.Dec.{eqb, ltb}
-use borrow.Author.Tests.{ne_eqb, ltb-true}
-use Rattle.std.specs.Prelude.{Result, Ok, Err, MatchResult}
+use borrow.Author.Tests.{ltb-true}
+use Rattle.std.specs.Prelude.{Result, Ok, Err, MatchResult, IfOk}
 use Rattle.model.proofs.Fits.{by_cond}
-use Rattle.settings.specs.Transfers.{begun, advanced, after_call}
+use Rattle.settings.specs.Transfers.{advanced, after_call}
 use Rattle.settings.specs.declared.transfers.CallError.{CallError}
 use Rattle.settings.specs.declared.transfers.CallError.TheVariants.{Interrupted, Other}
 use Rattle.settings.specs.declared.transfers.Failed.{Failed}
 use Rattle.settings.specs.declared.transfers.Transfer.{Transfer}
 
 -- WHAT IT ANSWERED
--- Within the buffer, and with fewer calls to follow.
-abbrev pub Within : Transfer → (length : ℕ) → Result Transfer Failed → Type 0
-Within t length r = MatchResult r (λ r. (r.count ≤ length) × (r.calls < t.calls)) (λ r. r.count ≤ length)
+-- Within the same buffer,
+abbrev pub Within : Transfer → Result Transfer Failed → Type 0
+Within t r = MatchResult r (λ r. (r.count ≤ t.length) × (r.length ≡ t.length)) (λ r. r.count ≤ t.length)
 
-module _ (t : Transfer) (length : ℕ) (h : (t.count ≤ length) × (0 < t.calls)) where
-  advanced-within : (n : ℕ) → Within t length (Ok (advanced t n length))
+-- and with fewer calls to follow.
+abbrev pub Fewer : Transfer → Result Transfer Failed → Type 0
+Fewer t r = IfOk r (λ r. r.calls < t.calls)
+
+module _ (t : Transfer) where
+  advanced-within : t.count ≤ t.length → (n : ℕ) → Within t (Ok (advanced t n))
   unfolding advanced
-  advanced-within n =
-      by_cond (λ (r : Transfer). Within t length (Ok r)) (eqb n 0) _ _ (λ e. (h.0, h.1))
-      λ e. by_cond (λ (r : Transfer). Within t length (Ok r)) (ltb n (length - t.count)) _ _
-      (λ l. let k = ltb-true n (length - t.count) l in (omega (arith, k, h), omega (arith, h)))
-      λ l. (omega arith, h.1)
+  advanced-within h n =
+      by_cond (λ (r : Transfer). Within t (Ok r)) (eqb n 0) _ _ (λ e. (h, refl))
+      λ e. by_cond (λ (r : Transfer). Within t (Ok r)) (ltb n (t.length - t.count)) _ _
+      (λ l. let k = ltb-true n (t.length - t.count) l in (omega (arith, k, h), refl))
+      λ l. (omega arith, refl)
 
-  pub answer-within : (z : Result ℕ CallError) → Within t length (after_call t z length)
-  answer-within (Ok n) = advanced-within n
-  answer-within (Err Interrupted) = (h.0, omega (arith, h))
-  answer-within (Err Other) = h.0
+  pub answer-within : t.count ≤ t.length → (z : Result ℕ CallError) → Within t (after_call t z)
+  answer-within h (Ok n) = advanced-within h n
+  answer-within h (Err Interrupted) = (h, refl)
+  answer-within h (Err Other) = h
 
--- BEFORE THE FIRST CALL
-pub some-calls : (n : ℕ) → 0 < n → {t : Transfer} → t ≡ begun n → (t.count ≤ n) × (0 < t.calls)
-some-calls n l e = rw (e, ne_eqb n 0 (λ z. omega (arith, l, z))) (omega arith, omega arith)
+  advanced-fewer : 0 < t.calls → (n : ℕ) → Fewer t (Ok (advanced t n))
+  unfolding advanced
+  advanced-fewer h n =
+      by_cond (λ (r : Transfer). Fewer t (Ok r)) (eqb n 0) _ _ (λ e. h)
+      λ e. by_cond (λ (r : Transfer). Fewer t (Ok r)) (ltb n (t.length - t.count)) _ _ (λ l. omega (arith, h)) λ l. h
 
-pub none-moved : (n : ℕ) {t : Transfer} → t ≡ begun n → t.count ≤ n
-none-moved n e = rw e (omega arith)
+  pub answer-fewer : 0 < t.calls → (z : Result ℕ CallError) → Fewer t (after_call t z)
+  answer-fewer h (Ok n) = advanced-fewer h n
+  answer-fewer h (Err Interrupted) = omega (arith, h)
+  answer-fewer h (Err Other) = tt

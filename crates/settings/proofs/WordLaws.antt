@@ -1,16 +1,16 @@
 -- The words of `tak.par` and their values, byte by byte. Assumes nothing.
 use Prim.Native.Nat.{ℕ, ◌*◌, ◌+◌, ◌-◌, ◌<◌}
 use mathlib.Core.Path.{◌≡◌, refl, sym, ap, ◌∙◌}
-use mathlib.Core.Bool.{Bool, true, false, cond}
+use mathlib.Core.Bool.{Bool, true, false}
 use mathlib.Core.List.{List, [], ◌∷◌, ◌++◌, append-nil, append_assoc}
 use mathlib.Core.Option.{Option, none, some}
 use native.Mathlib.Omega.{arith}
-use lib.Dec.{leb}
-use lib.ListN.{length, length-append}
-use borrow.Author.Tests.{lt-leb}
+use lib.ListN.{length}
 use Rattle.model.specs.Load.{keep}
-use Rattle.model.specs.Numbers.{is_blank, is_digit, digits_from, natural, mapped}
+use Rattle.model.specs.Numbers.{is_blank, is_digit, digits_from, mapped}
 use Rattle.model.specs.Settings.{fields_from, setting, all_settings}
+use Rattle.std.proofs.lemmas.Grind.{common_steps}
+use Rattle.std.proofs.Common.{rules}
 
 -- DIGITS
 -- The value of the digits t behind others, of value o.
@@ -66,19 +66,11 @@ Bad w = (t : List ℕ) → setting (w ++ t) ≡ none
 
 pub bad-long : (w : List ℕ) → 9 < length w → Bad w
 unfolding setting
-bad-long w l t = simp (setting, lt-leb (length (w ++ t)) 9 (omega (arith, length-append w t)))
+bad-long w l t = grind (arith, common_steps)
 
 setting-none : (w : List ℕ) → digits_from 0 w ≡ none → setting w ≡ none
 unfolding setting
-setting-none w h = go (leb (length w) 9) (nothing w h)
-  where
-    nothing : (w : List ℕ) → digits_from 0 w ≡ none → natural w ≡ none
-    nothing [] h = refl
-    nothing (b ∷ w) h = h
-
-    go : (x : Bool) {o : Option ℕ} → o ≡ none → cond x o none ≡ none
-    go true e = e
-    go false e = refl
+setting-none w h = search rules
 
 pub bad_other : (w : List ℕ) (b : ℕ) → is_digit b ≡ false → Bad (w ++ (b ∷ []))
 bad_other w b h t = rw append_assoc (setting-none (w ++ (b ∷ t)) (other-behind w b t h))

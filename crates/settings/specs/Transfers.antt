@@ -11,23 +11,24 @@ most_calls = 18446744073709551615
 
 -- Before the first call on a buffer of that length.
 abbrev pub begun : (length : ℕ) → Transfer
-begun length = record { count = 0; calls = cond (eqb length 0) 0 most_calls }
+begun length = record { count = 0; length = length; calls = cond (eqb length 0) 0 most_calls }
 
 -- Behind a call that moved n bytes. None is the end, and behind the buffer's last byte there is nothing left to do.
-unfoldable pub advanced : Transfer → (n length : ℕ) → Transfer
-advanced t n length =
-    cond (eqb n 0) (record { count = t.count; calls = 0 })
-    (cond (ltb n (length - t.count)) (record { count = t.count + n; calls = t.calls - 1 }) (record { count = length; calls = 0 }))
+unfoldable pub advanced : Transfer → (n : ℕ) → Transfer
+advanced t n =
+    cond (eqb n 0) (record { count = t.count; length = t.length; calls = 0 })
+    (cond (ltb n (t.length - t.count)) (record { count = t.count + n; length = t.length; calls = t.calls - 1 })
+    (record { count = t.length; length = t.length; calls = 0 }))
 
 -- Behind a call that moved nothing and says so: one that was interrupted is made again, any other failed and is the last.
 abbrev pub halted : Transfer → CallError → Result Transfer Failed
-halted t Interrupted = Ok (record { count = t.count; calls = t.calls - 1 })
+halted t Interrupted = Ok (record { count = t.count; length = t.length; calls = t.calls - 1 })
 halted t Other = Err (record { count = t.count })
 
 -- Behind a call that answered a count of bytes, or why it moved none.
-abbrev pub after_call : Transfer → Result ℕ CallError → (length : ℕ) → Result Transfer Failed
-after_call t (Ok n) length = Ok (advanced t n length)
-after_call t (Err e) length = halted t e
+abbrev pub after_call : Transfer → Result ℕ CallError → Result Transfer Failed
+after_call t (Ok n) = Ok (advanced t n)
+after_call t (Err e) = halted t e
 
 -- The bytes of the file: "A missing file counts as empty", and so does one that cannot be read.
 abbrev pub contents : Result Transfer Failed → ℕ

@@ -5,7 +5,7 @@ ghost use Rattle.settings.specs.Intakes.{known_wrong, untaken, goes_on, at_end, 
 use crate::transfers::{Failed, Transfer};
 use crate::{Scan, scan_chunk};
 
-// The scan of the bytes so far, and how many reads may follow.
+// The scan of the bytes so far, and how many reads may follow, as a Transfer counts them: none behind the end of the file, or where it is known to be wrong.
 #[derive(Clone, Copy)]
 pub struct Intake {
     pub scan: Option<Scan>,
@@ -35,14 +35,13 @@ fn known_wrong(scan: Option<Scan>) -> bool
 // Behind a piece of the file.
 #[tactic(auto, unfolding(crate::specs::Intakes::goes_on))]
 fn go_on(intake: Intake, scan: Option<Scan>) -> Intake
-    requires { 0 < intake.calls }
     ensures value { result ≡ goes_on intake scan }
-    ensures within { result.calls < intake.calls }
+    ensures fewer { 0 < intake.calls → result.calls < intake.calls }
 {
     let calls = if known_wrong(scan) {
         0
     } else {
-        intake.calls - 1
+        intake.calls.saturating_sub(1)
     };
     Intake { scan, calls }
 }
@@ -57,10 +56,9 @@ fn at_end(read: Transfer) -> bool
 // Behind one read into `bytes`.
 #[tactic(auto, unfolding(crate::specs::Intakes::taken))]
 pub fn take_piece(intake: Intake, read: Result<Transfer, Failed>, bytes: &[u8]) -> Intake
-    requires count { IfOk read (λ t. t.count ≤ length bytes.now) }
-    requires calls { 0 < intake.calls }
+    requires { IfOk read (λ t. t.count ≤ length bytes.now) }
     ensures value { result ≡ taken intake read bytes.now }
-    ensures within { result.calls < intake.calls }
+    ensures fewer { 0 < intake.calls → result.calls < intake.calls }
 {
     match read {
         Err(_) => Intake {

@@ -11,7 +11,7 @@ ghost use Rattle.settings.specs.Scans.{ended, extends, scanned, scanned_all, sca
 pub use intakes::{Intake, take_piece};
 use model::Parameters;
 use text::bytes::{is_blank, is_digit};
-pub use transfers::{CallError, Failed, Transfer, after_call, contents};
+pub use transfers::{CallError, Failed, Transfer, contents};
 
 // What the bytes so far come to, where each word of theirs is 1 to 9 digits and at most five ended: the last five words that ended, how many ended,
 // and the digits of the word that has not, with their value. Of other bytes there is no scan.

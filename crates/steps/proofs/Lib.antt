@@ -1,4 +1,3 @@
-pub mod ChoiceLaws
 pub mod Ready
 pub mod Steps
 pub mod Targets

@@ -8,7 +8,7 @@ use lib.ListN.{length}
 use lib.Signed.{mag}
 use borrow.Author.Tests.{eq-eqb, ne_eqb}
 use Rattle.model.proofs.Cells.{CellReadable, cell-readable}
-use Rattle.model.proofs.Fits.{both, is-between, Limits, limits}
+use Rattle.model.proofs.Fits.{both, is-between, Limits as Known, limits}
 use Rattle.model.proofs.Keeps.{value-mag}
 use Rattle.model.proofs.Ranges.{row-range}
 use Rattle.model.specs.Images.{cell_fits}
@@ -16,6 +16,7 @@ use Rattle.model.specs.Instructions.{instruction_count, row_of}
 use Rattle.model.specs.Parameters.{limit, between}
 use Rattle.model.specs.Step.{as_memory, State, environment_of, value_of, execute, settled}
 use Rattle.model.specs.declared.Parameters.{Parameters}
+use Rattle.bounds.specs.declared.limits.Limits.{Limits}
 use Rattle.effects.specs.Effects.{Indexed, output_after}
 use Rattle.image.proofs.FitLaws.{is-limit}
 use Rattle.image.specs.Decode.{cell_from}
@@ -30,13 +31,16 @@ use Rattle.steps.proofs.Steps.{Does, Steady, plan-does}
 use Rattle.steps.proofs.Targets.{names-target}
 use Rattle.steps.proofs.Tops.{top-between}
 
-module _ {i : Instruction} {p : Parameters} {m : ℕ} {at : Core} {input : List ℕ} {registers cells : List ℤ} {room : ℕ}
-    (h : Steppable (environment_of p [] input) m i at (as_memory registers cells) room) where
+module _ (l : Limits) {i : Instruction} {at : Core} {input : List ℕ} {registers cells : List ℤ} {room : ℕ}
+    (h : Steppable (environment_of l.parameters [] input) i at (as_memory registers cells) room) where
+  abbrev p : Parameters
+  p = l.parameters
+
   abbrev s : State
   s = state_of at registers cells
 
-  known : Limits p
-  known = limits p h.fit
+  known : Known p
+  known = limits p l.fit
 
   top-high : at.top ≤ p.s
   top-high = top-between at.top p.s h.sound.high
@@ -67,17 +71,17 @@ module _ {i : Instruction} {p : Parameters} {m : ℕ} {at : Core} {input : List 
   second-within = value-mag (environment_of p [] input) known s h.sound i.second readable.second
 
   -- The values of the first two words, as they were read.
-  pub choosable : {x y : ℤ} → x ≡ value_of s i.first → y ≡ value_of s i.second → Choosable i.number p m x y at registers cells input
+  pub choosable : {x y : ℤ} → x ≡ value_of s i.first → y ≡ value_of s i.second → Choosable i.number p l.m x y at registers cells input
   unfolding cell_fits
   choosable e f =
       let n = is-between 1 instruction_count i.number (both (between 1 instruction_count i.number) _ h.instruction).0 in
       record {
         from = n.0;
         to = n.1;
-        limit_is = h.limit_is;
-        is-limit = is-limit p h.fit h.limit_is;
-        first = rw (e, h.limit_is) first-within;
-        second = rw (f, h.limit_is) second-within;
+        limit_is = l.m_value;
+        is-limit = is-limit p l.fit l.m_value;
+        first = rw (e, l.m_value) first-within;
+        second = rw (f, l.m_value) second-within;
         bounded = bounded;
         low = top-between p.b at.top h.sound.low;
         high = omega (arith, top-high, h.sound.cell-count);

@@ -3,7 +3,6 @@ use Rattle.std.specs.Prelude.{ℕ, ◌≤◌, true, List, ◌≡◌, ℤ, length
 use Rattle.model.proofs.Keeps.{Sound}
 use Rattle.model.specs.Images.{cell_fits}
 use Rattle.model.specs.Instructions.{row_of}
-use Rattle.model.specs.Parameters.{Fit, limit}
 use Rattle.model.specs.Step.{Environment, Memory, environment_of, written_by, execute, settled}
 use Rattle.effects.specs.Effects.{output_after}
 use Rattle.image.specs.Decode.{cell_from}
@@ -16,9 +15,7 @@ abbrev pub written : Instruction → Core → Memory → List ℤ
 written i at m = written_by (row_of i.number).operation (cell_from i) (state_in at m)
 
 -- What refusal 15 asks of the state, an instruction that a text can yield, and room for its values.
-pub record Steppable (e : Environment) (m : ℕ) (i : Instruction) (at : Core) (memory : Memory) (room : ℕ) : Type 0 where
-  pub fit : Fit e.parameters
-  pub limit_is : m ≡ limit e.parameters.k
+pub record Steppable (e : Environment) (i : Instruction) (at : Core) (memory : Memory) (room : ℕ) : Type 0 where
   pub sound : Sound e (state_in at memory)
   pub instruction : cell_fits e.parameters (cell_from i) ≡ true
   pub room_for : length (written i at memory) ≤ room

@@ -1,36 +1,23 @@
 -- What each exported function hands back is what the definition says, from what the functions below it promise. Assumes nothing.
 use Prim.Native.Nat.{ℕ}
 use mathlib.Core.List.{List}
-use mathlib.Core.Path.{◌≡◌, refl, sym, ap, ◌∙◌}
+use mathlib.Core.Path.{◌≡◌, refl, ◌∙◌}
 use lib.IntN.{ℤ}
 use lib.ListN.{length}
-use borrow.Author.Tests.{eq-eqb, ne_eqb}
+use borrow.Author.Tests.{ne_eqb}
 use Rattle.model.proofs.Replies.{positive}
 use Rattle.model.specs.Calls.{zero_record, Started, Granted, granted, outcome_number}
 use Rattle.model.specs.Grants.{Call}
-use Rattle.model.specs.Load.{load_reply, image_after, LoadNumbers, load_numbers, numbers_of_load}
 use Rattle.model.specs.Replies.{refusal_number_of, start_answer, grant_answer}
 use Rattle.model.specs.Step.{Environment, with_parameters, Memory}
 use Rattle.model.specs.declared.AcceptedGrant.{AcceptedGrant}
 use Rattle.model.specs.declared.Refusal.{Refusal}
 use Rattle.std.specs.Prelude.{Result as Answer, Ok, Err}
-use Rattle.model.specs.Load.{LoadReply}
-use Rattle.model.specs.declared.Parameters.{Parameters}
 use Rattle.model.specs.declared.Record.{Record}
 use Rattle.machine.specs.CallContracts.{StartIs, GrantIs}
-use Rattle.tak.specs.Calls.{tak_load, Slices, start_replied, tak_start, ending_number, outcome_ending, grant_replied, tak_grant}
+use Rattle.tak.specs.Calls.{Slices, tak_start, ending_number, outcome_ending, tak_grant}
 use Rattle.tak.specs.Records.{fields_of, record_after, record_from, record_length}
-
--- LOAD
-module _ (p : Parameters) (text image : List ℕ) where
-  pub load-replied : {r : LoadReply} {image' : List ℕ} {n : LoadNumbers} → r ≡ load_reply p text image →
-      load_numbers r ≡ numbers_of_load p text image → image' ≡ image_after p text image r → load_numbers r ≡ n →
-      tak_load p text image ≡ record { number = n.refusal; lines = n.lines; line = n.line; image = image' }
-  unfolding tak_load
-  load-replied {n = n} e k m q =
-      let numbers : numbers_of_load p text image ≡ n = sym k ∙ q in
-      let words = ap (image_after p text image) (sym e) ∙ sym m in
-      λ i. record { number = (numbers i).refusal; lines = (numbers i).lines; line = (numbers i).line; image = words i }
+use Rattle.std.proofs.Common.{rules}
 
 -- The record slice: an accepted call's record is put there, and a refusal leaves it.
 after-accepted : (rec : Record) (old : List ℤ) → fields_of rec ≡ record_after 0 rec old
@@ -43,17 +30,11 @@ after-refused r rec old = rw (ne_eqb (refusal_number_of r) 0 (positive r))
 
 -- START
 module _ (e : Environment) (s : Slices) where
-  pub start-size : ¬ (length s.fields ≡ record_length) → tak_start e s ≡ record { number = 100; slices = s }
-  unfolding tak_start
-  start-size h = rw (ne_eqb (length s.fields) record_length h)
-
   pub start-replied : {x : Started} {fields' : List ℤ} → length s.fields ≡ record_length → StartIs e s.memory x →
       fields' ≡ record_after x.reply.refusal x.reply.rec s.fields →
       tak_start e s ≡ record { number = x.reply.refusal; slices = record { fields = fields'; memory = x.memory } }
   unfolding tak_start
-  start-replied {x} h i q =
-      rw (eq-eqb (length s.fields) record_length h) (ap (λ (y : Started). start_replied y s.fields) (sym i.given)
-      ∙ (λ j. record { number = x.reply.refusal; slices = record { fields = sym q j; memory = x.memory } }))
+  start-replied {x} h i q = search rules
 
   module _ (sized : length s.fields ≡ record_length) {memory' : Memory} where
     pub start-accepted : (rec : Record) {fields' : List ℤ} → StartIs e s.memory (record { reply = start_answer (Ok rec); memory = memory' }) →
@@ -66,11 +47,6 @@ module _ (e : Environment) (s : Slices) where
 
 -- GRANT
 module _ (e : Environment) (s : Slices) (c : Call) where
-  pub grant-size : ¬ (length s.fields ≡ record_length) →
-      tak_grant e s c ≡ record { number = 100; ending = 0; values = 0; spent = 0; slices = s; output = c.slice }
-  unfolding tak_grant
-  grant-size h = rw (ne_eqb (length s.fields) record_length h)
-
   pub grant-replied : {rec : Record} {x : Granted} {number ending : ℕ} {fields' : List ℤ} → length s.fields ≡ record_length →
       rec ≡ record_from s.fields → GrantIs (with_parameters rec.parameters e) (record { rec = rec; memory = s.memory }) c x →
       number ≡ outcome_number x.reply.outcome → ending ≡ outcome_ending x.reply.outcome →
@@ -85,19 +61,7 @@ module _ (e : Environment) (s : Slices) (c : Call) where
         output = x.slice;
       }
   unfolding tak_grant granted
-  grant-replied {rec} {x} {number} {ending} h r g n m k =
-      let y = ap (λ (t : Record). granted e (record { rec = t; memory = s.memory }) c) (sym r) ∙ sym g.given in
-      let w = ap (λ (t : ℕ). record_after t x.reply.rec s.fields) (sym n) ∙ sym k in
-      rw (eq-eqb (length s.fields) record_length h) (ap (λ (t : Granted). grant_replied t s.fields) y
-      ∙ (λ i.
-      record {
-        number = sym n i;
-        ending = sym m i;
-        values = x.reply.values;
-        spent = x.reply.cycles;
-        slices = record { fields = w i; memory = x.memory };
-        output = x.slice;
-      }))
+  grant-replied {rec} {x} {number} {ending} h r g n m k = search rules
 
   module _ (sized : length s.fields ≡ record_length) {rec : Record} (read : rec ≡ record_from s.fields) (after : Memory) (out : List ℤ) where
     abbrev Is : Answer AcceptedGrant Refusal → Type 0

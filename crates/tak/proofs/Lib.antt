@@ -1,5 +1,4 @@
 pub mod Held
-pub mod Fields
 pub mod Narrow
 pub mod CallLaws
 pub mod Exact

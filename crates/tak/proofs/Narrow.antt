@@ -1,30 +1,25 @@
 -- The record of an accepted call fits a slice of 64-bit numbers. Assumes nothing.
-use Prim.Native.Nat.{ℕ, zero, suc}
 use mathlib.Core.Path.{◌≡◌, refl, sym, ◌∙◌}
 use native.Mathlib.Omega.{arith}
 use mathlib.Core.List.{List}
 use lib.IntN.{ℤ}
 use Rattle.model.proofs.Fits.{grant-accepted}
 use Rattle.model.proofs.GrantKeeps.{grant-kept}
-use Rattle.model.specs.Calls.{Held, environment_for, start_checks, Started, started, account_of, Granted, granted, outcome_number}
+use Rattle.model.specs.Calls.{Held, environment_for, Started, started, account_of, Granted, granted, outcome_number}
 use Rattle.model.specs.Grants.{Call}
-use Rattle.model.specs.Parameters.{refusal_of}
 use Rattle.model.specs.Replies.{grant_answer}
 use Rattle.model.specs.Step.{Environment, Memory}
 use Rattle.model.specs.declared.AcceptedGrant.{AcceptedGrant}
 use Rattle.std.specs.Prelude.{Ok}
 use Rattle.machine.specs.CallContracts.{StartIs, GrantIs}
 use Rattle.tak.specs.Records.{Narrow}
+use Rattle.std.proofs.Common.{rules}
 
 -- Start's record has these fields at 0, accepted or refused.
 module _ (e : Environment) (m : Memory) where
   started_narrow : Narrow (started e m).reply.rec
   unfolding started
-  started_narrow = go (refusal_of (start_checks e m)) refl
-    where
-      go : (k : ℕ) → refusal_of (start_checks e m) ≡ k → Narrow (started e m).reply.rec
-      go zero h = rw (h, started) (record { place = omega arith; granted = omega arith; spent = omega arith })
-      go (suc k) h = rw (h, started) (record { place = omega arith; granted = omega arith; spent = omega arith })
+  started_narrow = search rules
 
   pub start_narrow : {x : Started} → StartIs e m x → Narrow x.reply.rec
   start_narrow s = rw s.given started_narrow

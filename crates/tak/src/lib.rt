@@ -21,7 +21,7 @@ use writer::decimal::write_decimal;
 // A record slice of another length, TAK_REFUSED_RECORD_LENGTH: the one number of a refusal that document 01 does not have.
 const REFUSED_RECORD_LENGTH: u32 = 100;
 
-// The numbers that load reports: C has no enums with values.
+// The numbers that load reports. No Result: C has no enums with values.
 #[derive(Clone, Copy)]
 struct LoadNumbers {
     refusal: u32,
@@ -29,7 +29,7 @@ struct LoadNumbers {
     line: u64,
 }
 
-// The numbers that grant reports.
+// The numbers that grant reports. No Result: C has no enums with values.
 #[derive(Clone, Copy)]
 struct GrantNumbers {
     refusal: u32,
@@ -38,6 +38,7 @@ struct GrantNumbers {
     spent: u64,
 }
 
+#[tactic(auto, unfolding(model::specs::Load::load_numbers))]
 fn load_numbers(answer: Result<usize, LoadError>) -> LoadNumbers
     ensures { load_numbers (load_answer answer) ≡ record { refusal = result.refusal; lines = result.lines; line = result.line } }
 {
@@ -55,7 +56,7 @@ fn load_numbers(answer: Result<usize, LoadError>) -> LoadNumbers
     }
 }
 
-// TAK_FAILED, TAK_ENDED, TAK_PAUSED or TAK_OUTPUT_FULL.
+// TAK_FAILED, TAK_ENDED, TAK_PAUSED or TAK_OUTPUT_FULL. No From: neither type is this crate's, and the numbers are the header's.
 fn ending_number(e: Ending) -> u32
     ensures { result ≡ ending_number e }
 {
@@ -68,6 +69,7 @@ fn ending_number(e: Ending) -> u32
 }
 
 // Loads a text into an image: the refusal or 0, the count of lines, the index of the faulty line.
+#[tactic(auto, unfolding(crate::specs::Calls::tak_load))]
 pub fn tak_load(
     k: u32,
     n: u32,
@@ -90,6 +92,7 @@ pub fn tak_load(
 }
 
 // Starts the machine: the refusal or 0, and the fresh record.
+#[tactic(auto, using(crate::proofs::Narrow::start_narrow), unfolding(crate::specs::Calls::tak_start))]
 pub fn tak_start(
     k: u32,
     n: u32,
@@ -131,6 +134,7 @@ fn refused_grant(refusal: u32) -> GrantNumbers
 }
 
 // Grants cycles to the machine of a record slice.
+#[tactic(auto, unfolding(crate::specs::Calls::tak_grant))]
 fn grant_to(
     fields: &mut [i64],
     cycles: u64,
@@ -201,6 +205,7 @@ pub fn tak_grant(
 }
 
 // Writes a value in decimal: the refusal or 0, and the count of bytes.
+#[tactic(auto, unfolding(crate::specs::Calls::tak_decimal))]
 pub fn tak_decimal(value: i32, bytes: &mut [u8], count: &mut u64) -> u32
     ensures { tak_decimal value bytes.old ≡ record { number = result; count = count.new; bytes = bytes.new } }
 {

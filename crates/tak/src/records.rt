@@ -29,7 +29,8 @@ const SPENT: usize = 10;
 
 pub const RECORD_LENGTH: usize = 11;
 
-// The number where 32 bits hold it, else their greatest, which no check lets pass.
+// The number where 32 bits hold it, else their greatest, which no check lets pass. This and held_long are no one generic function: at a type parameter its
+// contract could not say `held`, which is of numbers.
 fn held_short(z: i64) -> u32
     ensures { result ≡ held most32 z }
 {
@@ -43,7 +44,7 @@ fn held_long(z: i64) -> u64
     u64::try_from(z).unwrap_or(u64::MAX)
 }
 
-// The record that the numbers are.
+// The record that the numbers are. No `From`: neither type is this crate's.
 pub fn record_from(fields: &[i64]) -> Record
     requires { length fields.now ≡ record_length }
     ensures { result ≡ record_from fields.now }
@@ -65,21 +66,23 @@ pub fn record_from(fields: &[i64]) -> Record
     }
 }
 
-// Writes the numbers of a record.
+// Writes the numbers of a record, in the header's order.
 pub fn put_record(rec: Record, fields: &mut [i64])
     requires { Narrow rec × (length fields.old ≡ record_length) }
     ensures { fields.new ≡ fields_of rec }
 {
-    let shr = rec.shr;
-    fields[K] = rec.parameters.k as i64;
-    fields[N] = rec.parameters.n as i64;
-    fields[S] = rec.parameters.s as i64;
-    fields[B] = rec.parameters.b as i64;
-    fields[T] = rec.parameters.t as i64;
-    fields[IAR] = rec.iar as i64;
-    fields[IRCR] = rec.ircr as i64;
-    fields[SHR] = shr;
-    fields[PLACE] = rec.place as i64;
-    fields[GRANTED] = rec.granted as i64;
-    fields[SPENT] = rec.spent as i64;
+    let Parameters { k, n, s, b, t } = rec.parameters;
+    fields.copy_from_slice(&[
+        i64::from(k),
+        i64::from(n),
+        i64::from(s),
+        i64::from(b),
+        i64::from(t),
+        i64::from(rec.iar),
+        i64::from(rec.ircr),
+        rec.shr,
+        rec.place as i64,
+        rec.granted as i64,
+        rec.spent as i64,
+    ]);
 }

@@ -11,9 +11,7 @@ ghost use Rattle.session.specs.Sessions.{Sizes, size_of, lines_bytes, ReportIs};
 
 use model::{Parameters, Record};
 use session::{Report, open, run_grant};
-use settings::{
-    CallError, Failed, Intake, Scan, Transfer, after_call, contents, settings_of, take_piece,
-};
+use settings::{CallError, Failed, Intake, Scan, Transfer, contents, settings_of, take_piece};
 use std::io::{ErrorKind, Read, Write};
 use std::rt::Files;
 use std::{fs, io};
@@ -51,8 +49,7 @@ fn read_pieces<R: Read>(file: &mut R, bytes: &mut [u8]) -> Option<Scan>
     let mut intake = Intake::untaken();
     while 0 < intake.calls {
         let answer = moved(file.read(bytes));
-        let piece = Transfer::begun(bytes.len());
-        let read = after_call(piece, answer, bytes.len());
+        let read = Transfer::begun(bytes.len()).after_call(answer);
         intake = take_piece(intake, read, bytes);
     }
     intake.scan
@@ -67,7 +64,8 @@ fn read_parameters<R: Files>(rt: &R, bytes: &mut [u8]) -> Parameters
     }
 }
 
-// Reads until the buffer is full or the file ends.
+// Reads until the buffer is full or the file ends. Not one loop with `print` over a closure that is given the place: it may be called at any, and so
+// would have to give up behind the buffer's end, where here the place is proved to be in it.
 fn read_all<R: Read>(file: &mut R, bytes: &mut [u8]) -> Result<Transfer, Failed>
     ensures { IfOk result (λ t. t.count ≤ length bytes.old) }
 {
@@ -75,7 +73,7 @@ fn read_all<R: Read>(file: &mut R, bytes: &mut [u8]) -> Result<Transfer, Failed>
     while 0 < t.calls {
         let from = t.count;
         let answer = moved(file.read(&mut bytes[from..]));
-        t = after_call(t, answer, bytes.len())?;
+        t = t.after_call(answer)?;
     }
     Ok(t)
 }
@@ -94,7 +92,7 @@ fn print<W: Write>(out: &mut W, bytes: &[u8]) -> Result<(), Failed> {
     let mut t = Transfer::begun(bytes.len());
     while 0 < t.calls {
         let answer = moved(out.write(&bytes[t.count..]));
-        t = after_call(t, answer, bytes.len())?;
+        t = t.after_call(answer)?;
     }
     if t.count < bytes.len() {
         return Err(Failed { count: t.count });
@@ -102,17 +100,16 @@ fn print<W: Write>(out: &mut W, bytes: &[u8]) -> Result<(), Failed> {
     Ok(())
 }
 
-// The grant that follows, if one does, and its lines.
+// The grant that follows, if one does, and its lines. Slices and not a Program: ReportIs speaks of each lent slice.
 fn next_grant(
     report: Report,
     image: &[u32],
     input: &[u8],
     registers: &mut [i32],
     cells: &mut [i32],
-    values: &mut [i32],
-    lines: &mut [u8],
+    values: &mut [i32; MAX_VALUES],
+    lines: &mut [u8; MAX_LINES],
 ) -> Option<Report>
-    requires { (length values.old ≡ slice_values) × (lines_bytes ≤ length lines.old) }
     ensures report_is { MatchOption result (report.next ≡ None) (λ r. (cycles : _) × (report.next ≡ Some cycles) × ReportIs (environment_of report.rec.parameters image.now input.now)
         (as_held report.rec registers.old cells.old) (as_call cycles values.old) lines.old
         r (as_memory registers.new cells.new) values.new lines.new) }
@@ -123,7 +120,7 @@ fn next_grant(
     Some(run_grant(rec, cycles, image, input, registers, cells, values, lines))
 }
 
-// The length of a slice of that many; load refuses what is over the limit before it looks at a slice.
+// The length of a slice of that many; load refuses what is over the limit before it looks at a slice. No `min`: such a slice is empty.
 fn size_of(n: u32, most: usize) -> usize
     ensures value { result ≡ size_of n most }
     ensures within { result ≤ most }
@@ -140,11 +137,9 @@ fn run_grants<W: Write>(
     input: &[u8],
     registers: &mut [i32],
     cells: &mut [i32],
-    values: &mut [i32],
-    lines: &mut [u8],
-) -> Result<(), Failed>
-    requires { (length values.old ≡ slice_values) × (lines_bytes ≤ length lines.old) }
-{
+    values: &mut [i32; MAX_VALUES],
+    lines: &mut [u8; MAX_LINES],
+) -> Result<(), Failed> {
     let mut report = first;
     while let Some(next) = next_grant(report, image, input, registers, cells, values, lines) {
         report = next;
@@ -180,11 +175,9 @@ fn run_input<R: Files, W: Write>(
     image: &[u32],
     registers: &mut [i32],
     cells: &mut [i32],
-    values: &mut [i32],
-    lines: &mut [u8],
-) -> Result<(), Failed>
-    requires { (length values.old ≡ slice_values) × (lines_bytes ≤ length lines.old) }
-{
+    values: &mut [i32; MAX_VALUES],
+    lines: &mut [u8; MAX_LINES],
+) -> Result<(), Failed> {
     let count = read_file(rt, "tak.in", bytes);
     run_grants(
         out,
@@ -206,11 +199,10 @@ fn run<R: Files, W: Write>(
     image: &mut [u32],
     registers: &mut [i32],
     cells: &mut [i32],
-    values: &mut [i32],
-    lines: &mut [u8],
+    values: &mut [i32; MAX_VALUES],
+    lines: &mut [u8; MAX_LINES],
 ) -> Result<(), Failed>
     requires sizes { Sizes p image.old (as_memory registers.old cells.old) }
-    requires values_len { (length values.old ≡ slice_values) × (lines_bytes ≤ length lines.old) }
 {
     let report = load_text(rt, p, bytes, image, registers, cells, lines);
     print(out, &lines[..report.count])?;
@@ -222,22 +214,19 @@ fn run<R: Files, W: Write>(
     )
 }
 
-// The slices of the parameters' lengths. The buffers are lent one by one, here and above: a struct of the arrays was tried, and with it main took 281,992
-// bytes of stack, more than the 256 KiB there are.
+// The slices of the parameters' lengths. Arrays: fixed memory, no heap. They are lent one by one, here and above: a struct of the arrays was tried, and with
+// it main took 281,992 bytes of stack, more than the 256 KiB there are. One of slices would be taken apart for each call of session, which is lent them apart.
 fn run_slices<R: Files, W: Write>(
     rt: &R,
     out: &mut W,
     p: Parameters,
     bytes: &mut [u8],
-    image: &mut [u32],
-    registers: &mut [i32],
-    cells: &mut [i32],
-    values: &mut [i32],
-    lines: &mut [u8],
-) -> Result<(), Failed>
-    requires max_instructions_in_bounds { (4 * max_instructions ≤ length image.old) × (max_registers ≤ length registers.old) × (max_cells ≤ length cells.old) }
-    requires values_len { (length values.old ≡ slice_values) × (lines_bytes ≤ length lines.old) }
-{
+    image: &mut [u32; MAX_WORDS],
+    registers: &mut [i32; MAX_REGISTERS],
+    cells: &mut [i32; MAX_CELLS],
+    values: &mut [i32; MAX_VALUES],
+    lines: &mut [u8; MAX_LINES],
+) -> Result<(), Failed> {
     let words = 4 * size_of(p.t, MAX_WORDS / 4);
     let n = size_of(p.n, MAX_REGISTERS);
     let s = size_of(p.s, MAX_CELLS);

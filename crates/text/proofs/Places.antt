@@ -8,9 +8,9 @@ use native.Mathlib.Omega.{arith}
 use lib.ListN.{length}
 use lib.Dec.{ltb}
 use borrow.Author.Tests.{lt-ltb, le-ltb}
-use Rattle.std.proofs.Common.{Option, Some, None}
+use Rattle.std.proofs.Common.{Some, None}
 use Rattle.std.specs.List.{position_or_len}
-use Rattle.std.specs.Option.{unwrap_or, IfSome}
+use Rattle.std.specs.Option.{unwrap_or}
 use Rattle.std.proofs.lemmas.List.Sums.{prefix_len-le-length}
 
 -- The place that `position` finds, or the length.
@@ -21,8 +21,3 @@ place-found test w = go (position_or_len test w) (prefix_len-le-length (λ b. no
     go : (i : ℕ) → i ≤ length w → Dec (i < length w) → unwrap_or (cond (ltb i (length w)) (Some i) None) (length w) ≡ i
     go i h (yes l) = simp (lt-ltb i (length w) l)
     go i h (no g) = simp (le-ltb i (length w) (omega arith)) (omega arith)
-
--- Of n places, it is at most n.
-pub found-le : (r : Option ℕ) {m n : ℕ} → m ≡ n → IfSome r (λ i. i < m) → unwrap_or r n ≤ n
-found-le None e h = omega arith
-found-le (Some i) e h = omega arith

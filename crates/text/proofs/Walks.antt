@@ -1,14 +1,18 @@
--- Tokens, words and lines by the places that `find_from` finds. Assumes nothing.
+-- Tokens, words and lines by the places that `find` and `find_from` find. Assumes nothing.
 use Prim.Native.Nat.{ℕ, suc, ◌+◌, ◌-◌, ◌≤◌, ◌<◌, min}
 use mathlib.Core.Path.{◌≡◌, refl, sym, ap, ◌∙◌, subst}
 use mathlib.Core.Bool.{Bool, true, false, not, ◌||◌}
 use mathlib.Core.List.{List, [], ◌∷◌, ◌++◌, append-nil}
 use native.Mathlib.Numerals.{one-add}
 use native.Mathlib.Omega.{arith}
-use lib.Arith.{lt_of_le-ne}
-use lib.ListN.{length, drop, take, drop_of_length-le, length-append, length-drop}
+use lib.ListN.{length, drop, take, length-append}
 use lib.Seq.{append_snoc}
-use Rattle.std.specs.List.{position_or_len}
+use lib.Dec.{ltb}
+use native.Mathlib.Decide.{dec_lt}
+use borrow.Author.Tests.{lt-ltb, le-ltb}
+use Rattle.std.proofs.Common.{Some, None, cond}
+use Rattle.std.specs.List.{position, position_or_len}
+use Rattle.std.proofs.lemmas.List.Sums.{prefix_len-le-length}
 use Rattle.std.proofs.lemmas.List.{drop-drop, drop_min}
 use Rattle.std.proofs.lemmas.List.Folds.{length-prefix_len}
 use Rattle.model.specs.Numbers.{is_blank}
@@ -16,18 +20,13 @@ use Rattle.model.specs.Load.{keep, is_comment, is_separator, lines_from, lines, 
 use Rattle.model.specs.Step.{blanks_of, token_of}
 use Rattle.text.specs.Parts.{part}
 use Rattle.text.specs.Find.{first_from}
-use Rattle.text.specs.Lines.{is_line_feed, NextLine}
-use Rattle.text.specs.Words.{NextWord}
+use Rattle.text.specs.Lines.{is_line_feed}
 use Rattle.text.specs.Tokens.{NextToken}
 use Rattle.text.proofs.Among.{among-fails}
-use Rattle.text.proofs.Parts.{part-first}
 
 -- The part up to the place that is found.
 part-found : (test : ℕ → Bool) (t : List ℕ) (a b : ℕ) → b ≡ first_from test t a → part a b t ≡ take (position_or_len test (drop a t)) (drop a t)
 part-found test t a b e = let k : b - a ≡ position_or_len test (drop a t) = omega (arith, e) in ap (λ (n : ℕ). take n (drop a t)) k
-
-rest-found : (test : ℕ → Bool) (t : List ℕ) (a b : ℕ) → b ≡ first_from test t a → drop (position_or_len test (drop a t)) (drop a t) ≡ drop b t
-rest-found test t a b e = drop-drop _ a t ∙ ap (λ (n : ℕ). drop n t) (sym e)
 
 -- TOKENS
 abbrev pub no-blank : ℕ → Bool
@@ -51,17 +50,56 @@ token-taken (b ∷ s) = go (is_blank b) refl (token-taken s)
     go true e h = simp (token_of, e)
     go false e h = simp (token_of, e, one-add) (ap (λ (w : List ℕ). b ∷ w) h)
 
-pub token-found : (t : List ℕ) (p a b : ℕ) → a ≡ first_from no-blank t p → b ≡ first_from is_blank t a → b ≤ length t → NextToken t p a b
-token-found t p a b e f h =
+-- What `position` says of a byte that is no blank.
+first-byte : (w : List ℕ) (i : ℕ) → position no-blank w ≡ Some i → (i ≡ position_or_len no-blank w) × (i < length w)
+first-byte w i e = go (position_or_len no-blank w) (dec_lt (position_or_len no-blank w) (length w)) e
+  where
+    go : (k : ℕ) → Dec (k < length w) → cond (ltb k (length w)) (Some k) None ≡ Some i → (i ≡ k) × (i < length w)
+    go k (yes l) e = let f : i ≡ k = let h = rw (lt-ltb k (length w) l) at e in cc in (f, omega arith)
+    go k (no g) e = let h = rw (le-ltb k (length w) (omega arith)) at e in absurd cc
+
+pub only-blanks : (w : List ℕ) → position no-blank w ≡ None → blanks_of w ≡ length w
+only-blanks w e = blanks-counted w ∙ go (position_or_len no-blank w) (prefix_len-le-length (λ b. not (no-blank b)) w) (dec_lt (position_or_len no-blank w) (length w)) e
+  where
+    go : (k : ℕ) → k ≤ length w → Dec (k < length w) → cond (ltb k (length w)) (Some k) None ≡ None → k ≡ length w
+    go k h (yes l) e = let h = rw (lt-ltb k (length w) l) at e in absurd cc
+    go k h (no g) e = omega arith
+
+-- There is no blank in its first place.
+token-byte : (w : List ℕ) → position_or_len no-blank w < length w → 0 < position_or_len is_blank (drop (position_or_len no-blank w) w)
+token-byte [] h = absurd (omega arith)
+token-byte (b ∷ w) h = go (is_blank b) refl (token-byte w) h
+  where
+    go : (x : Bool) → is_blank b ≡ x → (position_or_len no-blank w < length w → 0 < position_or_len is_blank (drop (position_or_len no-blank w) w)) →
+        position_or_len no-blank (b ∷ w) < length (b ∷ w) → 0 < position_or_len is_blank (drop (position_or_len no-blank (b ∷ w)) (b ∷ w))
+    go true e k h = simp (e, one-add) (k (omega (arith, simp (e, one-add) at h)))
+    go false e k h = simp (e, one-add) (omega arith)
+
+pub token-found : (t : List ℕ) (p i b : ℕ) → position no-blank (drop p t) ≡ Some i → b ≡ first_from is_blank t (p + i) → b ≤ length t →
+    NextToken t p (p + i) b × (p + i < b)
+token-found t p i b e f h =
+    let a = p + i in
+    let first = first-byte (drop p t) i e in
     let taken = token-taken (drop a t) in
     let size = ap length taken ∙ length-prefix_len (λ b. not (is_blank b)) (drop a t) in
-    record {
-      blanks = e ∙ ap (λ (n : ℕ). p + n) (sym (blanks-counted (drop p t)));
-      ordered = omega (arith, f);
-      high = h;
-      place = omega (arith, f, size);
-      token = part-found is_blank t a b f ∙ sym taken;
-    }
+    let byte = rw (← first.0) at (token-byte (drop p t) (omega (arith, first.0, first.1))) in (
+      record {
+        blanks = ap (λ (n : ℕ). p + n) (first.0 ∙ sym (blanks-counted (drop p t)));
+        ordered = omega (arith, f);
+        high = h;
+        place = omega (arith, f, size);
+        token = part-found is_blank t a b f ∙ sym taken;
+      },
+      omega (arith, f, rw (drop-drop i p t) at byte),
+    )
+
+keep-few : (w : List ℕ) (ws : List (List ℕ)) → length (keep w ws) ≤ length w + length ws
+keep-few [] ws = omega arith
+keep-few (b ∷ w) ws = omega arith
+
+keep-some : (w : List ℕ) (ws : List (List ℕ)) → 0 < length w → keep w ws ≡ w ∷ ws
+keep-some [] ws h = absurd (omega arith)
+keep-some (b ∷ w) ws h = refl
 
 -- WORDS
 abbrev pub no-separator : ℕ → Bool
@@ -143,35 +181,35 @@ no-word (b ∷ s) h e = go (ends-word b) refl
     go true k = empty-word b s k h
     go false k = let z : 1 + position_or_len ends-word s ≡ 0 = simp k at e in absurd (omega arith)
 
-pub word-found : (l : List ℕ) (p a b : ℕ) → a ≡ first_from no-separator l p → b ≡ first_from ends-word l a → b ≤ length l → NextWord l p a b
-word-found l p a b e f h =
-    let skipped : words (drop p l) ≡ words (drop a l) = separators-passed (drop p l) ∙ ap words (rest-found no-separator l p a e) in
-    let stops : Stops (drop a l) = subst Stops (rest-found no-separator l p a e) (separators-stop (drop p l)) in
-    record {
-      low = omega (arith, e);
-      ordered = omega (arith, f);
-      high = h;
-      same =
-          skipped
-          ∙ word-taken (drop a l) []
-          ∙ ap (λ (w : List ℕ). keep w (words (drop (position_or_len ends-word (drop a l)) (drop a l)))) (sym (part-found ends-word l a b f))
-          ∙ ap (λ (s : List ℕ). keep (part a b l) (words s)) (rest-found ends-word l a b f);
-      none = λ q. skipped ∙ no-word (drop a l) stops (omega (arith, f, q));
-    }
+-- The word that stands behind the separators in front, and the bytes behind it.
+module _ (l : List ℕ) {s : List ℕ} {j : ℕ} (e : s ≡ drop (position_or_len no-separator l) l) (f : j ≡ position_or_len ends-word s) where
+  front : words l ≡ words s
+  front = separators-passed l ∙ ap words (sym e)
 
--- The next word, where there is one, is the first of the words.
-pub first_word : {l : List ℕ} {p a b : ℕ} → NextWord l p a b → ¬ (a ≡ b) → words (drop p l) ≡ part a b l ∷ words (drop b l)
-first_word {l} {p} {a} {b} n d = n.same ∙ rw (part-first a b l (lt_of_le-ne n.ordered d) n.high)
+  pub first_word : ¬ (length (take j s) ≡ 0) → words l ≡ take j s ∷ words (drop j s)
+  first_word h = front ∙ rw f (word-taken s []) ∙ keep-some (take j s) _ (omega (arith, h))
+
+  pub no_words : length (take j s) ≡ 0 → words l ≡ []
+  no_words h =
+      let size : length (take j s) ≡ j = rw f (length-prefix_len (λ b. not (ends-word b)) s) in
+      front ∙ no-word s (subst Stops (sym e) (separators-stop l)) (omega (arith, f, size, h))
+
+-- Each word has a byte.
+words_from-few : (w l : List ℕ) → length (words_from w l) ≤ length w + length l
+unfolding words_from
+words_from-few w [] = keep-few w []
+words_from-few w (b ∷ l) = go (is_comment b) (is_separator b) refl refl (words_from-few [] l) (words_from-few (w ++ (b ∷ [])) l)
+  where
+    go : (x y : Bool) → is_comment b ≡ x → is_separator b ≡ y → length (words l) ≤ 0 + length l →
+        length (words_from (w ++ (b ∷ [])) l) ≤ length (w ++ (b ∷ [])) + length l → length (words_from w (b ∷ l)) ≤ length w + suc (length l)
+    go true y e f h k = simp (words_from, e) (omega (arith, keep-few w []))
+    go false true e f h k = simp (words_from, e, f) (omega (arith, keep-few w (words l), h))
+    go false false e f h k = simp (words_from, e, f) (omega (arith, k, length-append w (b ∷ [])))
+
+pub words_few : (l : List ℕ) → length (words l) ≤ length l
+words_few l = omega (arith, words_from-few [] l)
 
 -- LINES
-pub no_lines : (t : List ℕ) (i : ℕ) → length t ≤ i → lines (drop i t) ≡ []
-unfolding lines_from
-no_lines t i h = rw (drop_of_length-le t h)
-
-keep-some : (w : List ℕ) (ws : List (List ℕ)) → 0 < length w → keep w ws ≡ w ∷ ws
-keep-some [] ws h = absurd (omega arith)
-keep-some (b ∷ w) ws h = refl
-
 -- A line up to the LF that ends it, or the text's end.
 line-taken : (s w : List ℕ) → 0 < length w + length s →
     lines_from w s ≡ (w ++ take (position_or_len is_line_feed s) s) ∷ lines (drop (suc (position_or_len is_line_feed s)) s)
@@ -185,21 +223,29 @@ line-taken (b ∷ s) w h = go (is_line_feed b) refl (line-taken s (w ++ (b ∷ [
     go true e k = simp (lines_from, e, append-nil)
     go false e k = simp (lines_from, e, one-add) (k ∙ simp append_snoc)
 
-pub line-found : (t : List ℕ) (p end next : ℕ) → p < length t → end ≡ first_from is_line_feed t p → end ≤ length t → next ≡ min (length t) (end + 1) →
-    NextLine t p end next
-line-found t p end next l e h n =
-    let k : ℕ = position_or_len is_line_feed (drop p t) in
-    let one : p + suc k ≡ end + 1 = omega (arith, e) in
+-- The first line ends at its LF, and the others stand behind it.
+pub first_line : (t : List ℕ) {end next : ℕ} → 0 < length t → end ≡ position_or_len is_line_feed t → next ≡ min (length t) (end + 1) → lines t ≡ take end t ∷ lines (drop next t)
+first_line t {end} {next} h e n =
+    let one : suc (position_or_len is_line_feed t) ≡ end + 1 = omega (arith, e) in
     let least : min (end + 1) (length t) ≡ next = omega (arith, n) in
-    let behind : drop (suc k) (drop p t) ≡ drop next t =
-    drop-drop (suc k) p t ∙ ap (λ (i : ℕ). drop i t) one ∙ sym (drop_min (end + 1) t) ∙ ap (λ (i : ℕ). drop i t) least in
-    record {
-      low = omega (arith, e);
-      high = h;
-      more = omega (arith, e, n);
-      within = omega (arith, n);
-      same =
-          line-taken (drop p t) [] (omega (arith, length-drop p t))
-          ∙ ap (λ (w : List ℕ). w ∷ lines (drop (suc k) (drop p t))) (sym (part-found is_line_feed t p end e))
-          ∙ ap (λ (s : List ℕ). part p end t ∷ lines s) behind;
-    }
+    let behind = ap (λ (i : ℕ). drop i t) one ∙ sym (drop_min (end + 1) t) ∙ ap (λ (i : ℕ). drop i t) least in
+    line-taken t [] (omega (arith, h)) ∙ ap (λ (i : ℕ). take i t ∷ lines (drop (suc (position_or_len is_line_feed t)) t)) (sym e) ∙ ap (λ (s : List ℕ). take end t ∷ lines s) behind
+
+pub no_lines : (t : List ℕ) → length t ≡ 0 → lines t ≡ []
+unfolding lines_from
+no_lines [] h = refl
+no_lines (b ∷ t) h = absurd (omega arith)
+
+-- Each line has a byte or an LF.
+lines_from-few : (w t : List ℕ) → length (lines_from w t) ≤ length w + length t
+unfolding lines_from
+lines_from-few w [] = keep-few w []
+lines_from-few w (b ∷ t) = go (is_line_feed b) refl (lines_from-few [] t) (lines_from-few (w ++ (b ∷ [])) t)
+  where
+    go : (x : Bool) → is_line_feed b ≡ x → length (lines t) ≤ 0 + length t →
+        length (lines_from (w ++ (b ∷ [])) t) ≤ length (w ++ (b ∷ [])) + length t → length (lines_from w (b ∷ t)) ≤ length w + suc (length t)
+    go true e h k = simp (lines_from, e) (omega (arith, h))
+    go false e h k = simp (lines_from, e) (omega (arith, k, length-append w (b ∷ [])))
+
+pub lines_few : (t : List ℕ) → length (lines t) ≤ length t
+lines_few t = omega (arith, lines_from-few [] t)

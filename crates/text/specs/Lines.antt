@@ -1,16 +1,11 @@
--- What finding a line answers.
-use Rattle.std.specs.Prelude.{ℕ, ◌≤◌, ◌<◌, ◌≡◌, Bool, List, ◌∷◌, eqb, length, drop}
+-- The lines that an iterator over a text has left.
+use Rattle.std.specs.Prelude.{ℕ, Bool, List, eqb}
 use Rattle.model.specs.Load.{lines}
-use Rattle.text.specs.Parts.{part}
+use Rattle.text.specs.declared.lines.Lines.{Lines}
 
 -- An LF.
 abbrev pub is_line_feed : ℕ → Bool
 is_line_feed b = eqb b 10
 
--- The line that starts at p is the part up to `end`, and the others are those from `next` on.
-pub record NextLine (t : List ℕ) (p end next : ℕ) : Type 0 where
-  pub low : p ≤ end
-  pub high : end ≤ length t
-  pub more : p < next
-  pub within : next ≤ length t
-  pub same : lines (drop p t) ≡ part p end t ∷ lines (drop next t)
+abbrev pub lines_left : Lines → List (List ℕ)
+lines_left s = lines s.rest.now

@@ -1,23 +1,26 @@
 -- The digits of a number, written from the last to the first. Assumes nothing.
 use Prim.Native.Nat.{ℕ, zero, suc, ◌+◌, ◌*◌, ◌-◌, ◌/◌, ◌%◌, ◌^◌, ◌≤◌, ◌<◌, max}
-use mathlib.Core.Path.{◌≡◌, sym, ap, ◌∙◌}
-use mathlib.Core.Bool.{true, false}
+use mathlib.Core.Path.{◌≡◌, refl, sym, ap, ◌∙◌}
+use mathlib.Core.Bool.{Bool, true, false}
 use mathlib.Core.List.{List, [], ◌∷◌, ◌++◌, append_assoc, append-nil}
-use native.Mathlib.Nat.{div-div-eq-div-mul, pow-suc}
-use native.Mathlib.Numerals.{add-one}
+use mathlib.Core.Option.{some}
+use native.Mathlib.Nat.{pow-suc, pow-le-pow_right}
+use native.Mathlib.Numerals.{add-one, one-add}
 use native.Mathlib.Omega.{arith}
-use lib.Dec.{leb-zero}
 use lib.IntN.{ℤ, pos, negsuc, nat_abs}
-use lib.ListN.{length, take, drop, set, length-append, length-set}
-use lib.Seq.{take-length, drop-length, drop-cons, drop-set-lt, get_or-set_same}
-use lib.Signed.{le_z}
+use lib.ListN.{length, take, drop, set, length-append, length-set, length-drop, drop_of_length-le}
+use lib.Seq.{drop-cons, drop-set-lt, get_or-set_same}
+use lib.Signed.{lt_z}
 use borrow.Author.Tests.{lt-ltb, le-ltb}
 use borrow.Rule.Slice.PartMut.{put_mid}
+use mir.Val.{bool_byte}
 use Rattle.std.specs.Prelude.{Ok, Err}
+use Rattle.std.proofs.Common.{zero-add}
+use Rattle.std.proofs.lemmas.List.{take_rest}
 use Rattle.model.specs.declared.Refusal.TheVariants as refusal
-use Rattle.model.specs.Numbers.{digits_of, decimal, longest_decimal}
+use Rattle.model.specs.Numbers.{digits_of, decimal, number, longest_decimal}
 use Rattle.model.specs.Calls.{spelled}
-use Rattle.model.proofs.Decimals.{digit-count, by_digits, digits_last, digits_more, digits_append}
+use Rattle.model.proofs.Decimals.{digit-count, by_digits, digits_last, digits_more, digits_append, digits-at-most, number-decimal}
 use Rattle.writer.specs.Decimal.{written}
 
 -- The last k digits of n in front of s, zeros where n has fewer.
@@ -44,62 +47,77 @@ all_digits = by_digits All last more
         let k : length (ds ++ (d ∷ [])) ≡ suc (length ds) = omega (arith, length-append ds (d ∷ [])) in
         rw e (ap (λ (j : ℕ). last_digits j n s) k ∙ ih (d ∷ s) ∙ sym (append_assoc ds (d ∷ []) s))
 
-pub decimal-digits : (n : ℕ) (s : List ℕ) → last_digits (length (decimal (pos n))) n s ≡ decimal (pos n) ++ s
-decimal-digits n s = all_digits (suc n) n (omega arith) s
+pub decimal_digits : (n k : ℕ) → k ≡ length (decimal (pos n)) → last_digits k n [] ≡ decimal (pos n)
+decimal_digits n k e = rw e (all_digits (suc n) n (omega arith) [] ∙ append-nil _)
 
--- From 10^k on, and from 0 on for k = 0, n has k + 1 digits.
-pub digits_counted : (k n : ℕ) → 10 ^ k ≤ max 1 n → n < 10 * 10 ^ k → length (decimal (pos n)) ≡ k + 1
-digits_counted k n l h = digit-count k n l (rw pow-suc (omega arith)) ∙ sym (add-one k)
+-- THE COUNT: p is 10^(k - 1).
+pub next_power : (k p : ℕ) → p * 10 ≡ 10 ^ k → p * 10 * 10 ≡ 10 ^ (k + 1)
+next_power k p e = rw (add-one, pow-suc) (omega arith)
+
+pub power_fits : (k p : ℕ) → p * 10 ≡ 10 ^ k → k ≤ 19 → p * 10 < 2 ^ 64
+power_fits k p e h = let ten : 0 < 10 = omega arith in let l = pow-le-pow_right ten h in omega arith
+
+-- From 10^(k - 1) on, and from 0 on for k = 1, and below 10^k, n has k digits.
+pub digits_counted : (k n : ℕ) → 1 ≤ k → 10 ^ k ≤ max 1 n * 10 → n < 10 ^ k → length (decimal (pos n)) ≡ k
+digits_counted zero n h l b = absurd (omega arith)
+digits_counted (suc k) n h l b = digit-count k n (omega (arith, rw pow-suc at l)) b
 
 -- One more digit in front.
-pub write-digit : (at n : ℕ) (out : List ℕ) → 0 < at → at ≤ length out →
+pub write_digit : (at n : ℕ) (out : List ℕ) → 0 < at → at ≤ length out →
     last_digits at n (drop at out) ≡ last_digits (at - 1) (n / 10) (drop (at - 1) (set out (at - 1) (48 + n % 10)))
 unfolding last_digits
-write-digit zero n out h l = absurd (omega arith)
-write-digit (suc k) n out h l =
+write_digit zero n out h l = absurd (omega arith)
+write_digit (suc k) n out h l =
     let e : suc k - 1 ≡ k = omega arith in
     let d = 48 + n % 10 in
     let j : k < length (set out k d) = simp length-set l in
     rw e (ap (last_digits k (n / 10)) (sym (rw (drop-cons (set out k d) k 0 j, get_or-set_same out k d 0 l, drop-set-lt (suc k) out k d (omega arith)))))
 
--- Two more.
-pub write_pair : (at n : ℕ) (out : List ℕ) → 2 ≤ at → at ≤ length out →
-    last_digits at n (drop at out)
-    ≡ last_digits (at - 2) (n / 100) (drop (at - 2) (set (set out (at - 1) (48 + n % 100 % 10)) (at - 2) (48 + n % 100 / 10)))
-write_pair at n out h l =
-    let low : n % 100 % 10 ≡ n % 10 = omega arith in
-    let rest : n / 100 ≡ n / 10 / 10 = sym (div-div-eq-div-mul n 10 10) in
-    let high : n % 100 / 10 ≡ n / 10 % 10 = omega arith in
-    let next : at - 2 ≡ at - 1 - 1 = omega arith in
-    write-digit at n out (omega arith) l
-    ∙ write-digit (at - 1) (n / 10) (set out (at - 1) (48 + n % 10)) (omega arith) (rw length-set (omega arith))
-    ∙ sym (rw (low, high, rest, next))
-
--- THE SIGN
--- y is the value z as the machine passes it on, and n its magnitude.
-pub decimal-natural : {y z : ℤ} {n : ℕ} → y ≡ z → le_z (pos 0) y ≡ true → n ≡ nat_abs y → decimal z ≡ decimal (pos n)
-decimal-natural {y = pos m} e h k = rw (← e, k)
-decimal-natural {y = negsuc m} e h k = let e : ◌≡◌ {A = ℕ} 0 1 = cc in absurd (omega arith)
-
-pub decimal_negative : {y z : ℤ} {n : ℕ} → y ≡ z → le_z (pos 0) y ≡ false → n ≡ nat_abs y → decimal z ≡ 45 ∷ decimal (pos n)
-decimal_negative {y = pos m} e h k = let e : true ≡ false = sym (leb-zero m) ∙ h in cc
-decimal_negative {y = negsuc m} e h k = rw (← e, k)
-
--- The minus stands in front of the part that the digits are written to.
-pub minus-first : (old ds out : List ℕ) (count : ℕ) → 1 ≤ length old → out ≡ ds ++ drop count (take (length old - 1) (drop 1 old)) →
-    set (put_mid 1 (length old - 1) old out) 0 45 ≡ (45 ∷ ds) ++ drop (count + 1) old
-minus-first [] ds out count h e = absurd (omega arith)
-minus-first (b ∷ s) ds out count h e =
-    let k : suc (length s) - 1 ≡ length s = omega arith in
-    let f : out ≡ ds ++ drop count s = rw (k, take-length) at e in
-    rw (k, drop-length, append-nil, add-one) (ap (λ (xs : List ℕ). 45 ∷ xs) f)
+pub all_written : (at n : ℕ) (out : List ℕ) → at ≡ 0 → last_digits at n (drop at out) ≡ out
+unfolding last_digits
+all_written at n out e = rw e
 
 -- THE REPLY
-pub spelled-short : (z : ℤ) (old : List ℕ) → length old < longest_decimal → written (Err refusal.DecimalLength) old ≡ spelled z old
-unfolding spelled
-spelled-short z old h = rw (lt-ltb (length old) longest_decimal h)
+-- The rest of a slice, lent and given back.
+put-rest : (a : ℕ) (xs ys : List ℕ) → put_mid a (length xs - a) xs ys ≡ take a xs ++ ys
+put-rest a xs ys = let l : length (drop a xs) ≤ length xs - a = omega (arith, length-drop a xs) in rw (drop_of_length-le (drop a xs) l, append-nil)
 
-pub spelled-long : (z : ℤ) (old ds out : List ℕ) (count : ℕ) → longest_decimal ≤ length old → decimal z ≡ ds → count ≡ length ds → out ≡ ds ++ drop count old →
+pub spelled_short : (z : ℤ) (old : List ℕ) → length old < longest_decimal → written (Err refusal.DecimalLength) old ≡ spelled z old
+unfolding spelled
+spelled_short z old h = rw (lt-ltb (length old) longest_decimal h)
+
+spelled-long : (z : ℤ) (old ds out : List ℕ) (count : ℕ) → longest_decimal ≤ length old → decimal z ≡ ds → count ≡ length ds → out ≡ ds ++ drop count old →
     written (Ok count) out ≡ spelled z old
 unfolding spelled
 spelled-long z old ds out count h d n e = rw (le-ltb (length old) longest_decimal h, d, e, n)
+
+-- The room that digits take, and a sign.
+pub digits_fit : (k n : ℕ) → n < 10 ^ suc k → length (decimal (pos n)) ≤ suc k
+digits_fit k n l = omega (arith, digits-at-most (suc n) n (omega arith) k [] l)
+
+pub sign_fits : (b : Bool) → bool_byte b ≤ 1
+sign_fits true = omega arith
+sign_fits false = omega arith
+
+-- There is a digit.
+first-digit : (n : ℕ) → 1 ≤ length (decimal (pos n))
+first-digit n = go (decimal (pos n)) (number-decimal (pos n))
+  where
+    go : (s : List ℕ) → number s ≡ some (pos n) → 1 ≤ length s
+    go [] h = cc
+    go (b ∷ s) h = omega arith
+
+-- A minus at the start, and the digits from `sign` on, over it where there is none.
+digits-put : (z : ℤ) (b : ℕ) (s : List ℕ) (sign n count : ℕ) → sign ≡ bool_byte (lt_z z (pos 0)) → n ≡ nat_abs z → count ≡ length (decimal (pos n)) →
+    (sign + count ≡ length (decimal z)) × (take sign (45 ∷ s) ++ (decimal (pos n) ++ drop count (drop sign (45 ∷ s))) ≡ decimal z ++ drop (sign + count) (b ∷ s))
+digits-put (pos m) b s sign n zero e a c = let l = first-digit n in absurd (omega arith)
+digits-put (pos m) b s sign n (suc count) e a c = let f : sign ≡ 0 = e ∙ ap bool_byte (le-ltb m 0 (omega arith)) in rw (f, zero-add, ← a) (c, refl)
+digits-put (negsuc m) b s sign n count e a c = rw (e, one-add, ← a) (ap suc c, refl)
+
+pub spelled_digits : (z : ℤ) (old out : List ℕ) (sign n count : ℕ) → longest_decimal ≤ length old → sign ≡ bool_byte (lt_z z (pos 0)) → n ≡ nat_abs z →
+    count ≡ length (decimal (pos n)) → out ≡ decimal (pos n) ++ drop count (take (length (set old 0 45) - sign) (drop sign (set old 0 45))) →
+    written (Ok (sign + count)) (put_mid sign (length (set old 0 45) - sign) (set old 0 45) out) ≡ spelled z old
+spelled_digits z [] out sign n count h s a c o = absurd (omega arith)
+spelled_digits z (b ∷ old) out sign n count h s a c o =
+    let put = digits-put z b old sign n count s a c in
+    spelled-long z (b ∷ old) (decimal z) _ _ h refl put.0 (put-rest sign (45 ∷ old) out ∙ ap (λ (xs : List ℕ). take sign (45 ∷ old) ++ xs) (rw take_rest at o) ∙ put.1)

@@ -1,13 +1,12 @@
 use Prim.Native.Nat.{◌-◌}
-use Rattle.model.specs.Step.{as_memory, environment_of}
-use Rattle.engine.specs.Runs.{Runnable}
+use Rattle.model.specs.Step.{as_memory}
+use Rattle.engine.specs.Programs.{environment_in}
 use Rattle.engine.proofs.RunLaws.{RunInvariant}
 use Rattle.engine.proofs.run.Given as goal
 
 abbrev pub invariant-loop-ending : goal.invariant-loop-ending
 invariant-loop-ending l =
-    Runnable (environment_of l.p l.image l.input) l.m l.prices l.initial.at l.initial.spent l.granted (as_memory l.initial.registers l.initial.cells)
-    × RunInvariant (environment_of l.p l.image l.input) l.initial.at l.initial.spent l.granted (as_memory l.initial.registers l.initial.cells) l.initial.out l.at l.spent l.count (as_memory l.registers l.cells) l.out
+    RunInvariant (environment_in l.program) l.initial.at l.initial.spent l.granted (as_memory l.initial.registers l.initial.cells) l.initial.out l.at l.spent l.count (as_memory l.registers l.cells) l.out
 
 abbrev pub decreases-loop-ending : goal.decreases-loop-ending
 decreases-loop-ending l =

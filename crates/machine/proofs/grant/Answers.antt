@@ -20,15 +20,22 @@ returns c =
     let h = as_held c.args.rec c.args.registers.now c.args.cells.now in
     let call = as_call c.args.cycles c.args.out.now in
     grant-accepts e h call (c.in_ok-check_grant.ensures call.slice) _ (c.core_of.ensures h.memory)
-    c.run-ran.ensures (c.record_of.ensures h.memory)
+    (rw c.new.ensures at c.run-ran.ensures) (c.record_of.ensures h.memory)
 
-pub limit_of-m-requires : goal.limit_of-m-requires
-limit_of-m-requires c =
+pub new-requires : goal.new-requires
+new-requires c =
     let e = environment_of c.args.rec.parameters c.args.image.now c.args.input.now in
     let h = as_held c.args.rec c.args.registers.now c.args.cells.now in
     let call = as_call c.args.cycles c.args.out.now in
-    let l = limits c.args.rec.parameters (fits e h call (c.in_ok-check_grant.ensures call.slice)).start.fit in
-    (l.k-low, l.k-high)
+    (fits e h call (c.in_ok-check_grant.ensures call.slice)).start.fit
+
+pub invariant_of-program : goal.invariant_of-program
+invariant_of-program c =
+    let e = environment_of c.args.rec.parameters c.args.image.now c.args.input.now in
+    let h = as_held c.args.rec c.args.registers.now c.args.cells.now in
+    let call = as_call c.args.cycles c.args.out.now in
+    let start = (fits e h call (c.in_ok-check_grant.ensures call.slice)).start in
+    record { image_length = rw c.new.ensures start.image-length; fits = rw c.new.ensures start.image-fits }
 
 pub overflow_add-granted : goal.overflow_add-granted
 overflow_add-granted c =
@@ -52,8 +59,7 @@ run-ran-requires c =
     let e = environment_of c.args.rec.parameters c.args.image.now c.args.input.now in
     let h = as_held c.args.rec c.args.registers.now c.args.cells.now in
     let call = as_call c.args.cycles c.args.out.now in
-    runnable e h call (c.in_ok-check_grant.ensures call.slice) _ (c.core_of.ensures h.memory)
-    c.limit_of-m.ensures.value c.price_table-prices.ensures
+    rw c.new.ensures (runnable e h call (c.in_ok-check_grant.ensures call.slice) _ (c.core_of.ensures h.memory))
 
 pub record_of-requires : goal.record_of-requires
 record_of-requires c =
@@ -61,5 +67,5 @@ record_of-requires c =
     let h = as_held c.args.rec c.args.registers.now c.args.cells.now in
     let call = as_call c.args.cycles c.args.out.now in
     let l = limits c.args.rec.parameters (fits e h call (c.in_ok-check_grant.ensures call.slice)).start.fit in
-    let s = c.run-ran.ensures.sound in
+    let s = (rw c.new.ensures at c.run-ran.ensures).sound in
     (omega (arith, s.iar, l.t-high), omega (arith, top-between c.run-ran.result.core.top c.args.rec.parameters.s s.high, l.s-high))

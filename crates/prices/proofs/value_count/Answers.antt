@@ -10,18 +10,6 @@ returns-then-number-gt6 c =
     let l = c.if-number-gt6.true in
     sym (values-none c.args.p c.args.number (λ e. omega arith) (λ e. omega arith) (λ e. omega arith))
 
-pub returns-in-3 : goal.returns-in-3
-unfolding row_of
-returns-in-3 c = rw c.in-3.is
-
-pub returns-in-4 : goal.returns-in-4
-unfolding row_of
-returns-in-4 c = rw c.in-4.is
-
-pub returns-in-6 : goal.returns-in-6
-unfolding row_of
-returns-in-6 c = rw c.in-6.is
-
 pub returns-in_default : goal.returns-in_default
 returns-in_default c =
     sym (values-none c.args.p c.args.number (λ e. omega arith) (λ e. omega arith) (λ e. omega arith))

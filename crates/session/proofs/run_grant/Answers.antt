@@ -19,7 +19,7 @@ pub returns : goal.returns
 returns c =
     let a = c.args in
     let first = rw (c.values_written-count.ensures a.rec) at c.put_values-at.ensures.put in
-    let last = c.finish.ensures in
+    let last = c.finish-last.ensures in
     let all = put_then first last.put in
     record {
       report_is =

@@ -3,16 +3,9 @@ use Rattle.model.specs.Calls.{as_call}
 use Rattle.model.specs.Step.{environment_of, with_parameters}
 use Rattle.tak.specs.Calls.{as_slices}
 use Rattle.tak.specs.Records.{record_from}
-use Rattle.tak.proofs.CallLaws.{grant-size, grant-accepted, grant-refused}
+use Rattle.tak.proofs.CallLaws.{grant-accepted, grant-refused}
 use Rattle.tak.proofs.Narrow.{accepted_narrow}
 use Rattle.tak.proofs.grant_to.Goals as goal
-
-pub returns-then-fields-ne-RECORD_LENGTH : goal.returns-then-fields-ne-RECORD_LENGTH
-returns-then-fields-ne-RECORD_LENGTH c =
-    let a = c.args in
-    rw c.refused_grant.ensures
-    (grant-size (environment_of (record_from a.fields.now).parameters a.image.now a.input.now)
-    (as_slices a.fields.now a.registers.now a.cells.now) (as_call a.cycles a.output.now) c.if-fields-ne-RECORD_LENGTH.true)
 
 pub put_record-requires : goal.put_record-requires
 put_record-requires c =

@@ -2,22 +2,8 @@
 use mathlib.Core.List.{[]}
 use Rattle.model.specs.Step.{environment_of}
 use Rattle.tak.specs.Calls.{as_slices, parameters_of}
-use Rattle.tak.proofs.CallLaws.{start-size, start-accepted, start-refused}
-use Rattle.tak.proofs.Narrow.{start_narrow}
+use Rattle.tak.proofs.CallLaws.{start-accepted, start-refused}
 use Rattle.tak.proofs.tak_start.Goals as goal
-
-pub returns-then-fields-ne-RECORD_LENGTH : goal.returns-then-fields-ne-RECORD_LENGTH
-returns-then-fields-ne-RECORD_LENGTH c =
-    let a = c.args in
-    start-size (environment_of (parameters_of a.k a.n a.s a.b a.t) a.image.now []) (as_slices a.fields.now a.registers.now a.cells.now)
-    c.if-fields-ne-RECORD_LENGTH.true
-
-pub put_record-requires : goal.put_record-requires
-put_record-requires c =
-    let a = c.args in
-    let e = environment_of (parameters_of a.k a.n a.s a.b a.t) a.image.now [] in
-    let s = as_slices a.fields.now a.registers.now a.cells.now in
-    (start_narrow e s.memory c.in-Ok.ensures, c.if-fields-ne-RECORD_LENGTH.false)
 
 pub returns-in-Ok : goal.returns-in-Ok
 returns-in-Ok c =

@@ -1,72 +1,68 @@
-use Prim.Native.Nat.{◌*◌}
-use mathlib.Core.Path.{◌≡◌, refl, ◌∙◌}
+use Prim.Native.Nat.{ℕ, ◌*◌}
+use mathlib.Core.Bool.{true, false}
+use mathlib.Core.Path.{◌≡◌, ◌∙◌}
 use native.Mathlib.Omega.{arith}
-use lib.IntN.{pos, neg_ℤ, ◌+ℤ◌, ◌-ℤ◌}
-use mir.Facts.{to_z-of_z, to_z_pos}
+use lib.IntN.{ℤ, pos, neg_ℤ, ◌+ℤ◌, ◌-ℤ◌}
+use lib.Signed.{lt_z, le_z}
+use mir.Facts.{to_z-of_z}
 use mir.Syntax.{w32, w64}
 use mir.Val.{SFits, to_z, of_z}
 use Rattle.model.specs.Arithmetic.{shift_left}
 use Rattle.model.proofs.Ranges.{shift-left-mag}
-use Rattle.bounds.specs.Bounds.{Within}
-use Rattle.bounds.proofs.Integers.{widen, zero_minus, minus-limit-fits}
+use Rattle.bounds.specs.Bounds.{IsLimit, Within}
+use Rattle.bounds.proofs.Integers.{mag_neg-pos, widen, zero_minus}
 use Rattle.bounds.proofs.LimitLaws.{one, at_most, within-fits}
 use Rattle.bitwise.proofs.BitLaws.{double-below, double_above, double-inside}
 use Rattle.bitwise.proofs.bits.rsl.Goals as goal
-use Rattle.bitwise.proofs.bits.rsl.Goals.{After-double-twice, Else-top-twice, Start, Then-top-twice, Then-twice-top}
 
-range : (c : Start) → Within c.args.m (shift_left c.args.m c.args.x)
-range c = shift-left-mag c.args.m (one c.requires.limit) c.args.x
+-- What the code reads out of 64 bits, and hands back in 32.
+abbrev wide : ℤ → ℤ
+wide z = to_z w64 (of_z w64 z)
 
-fits : (c : Start) → SFits w32 (shift_left c.args.m c.args.x)
-fits c = within-fits c.requires.limit (range c)
+abbrev back : ℤ → ℤ
+back z = to_z w32 (of_z w32 z)
 
--- What the code has in 64 bits: M, 2^K and the double.
-top : (c : Start) → to_z w64 c.args.m ≡ pos c.args.m
-top c = to_z_pos w64 (omega arith)
+-- The double, M and 2^K in 64 bits.
+module _ {m : ℕ} {x t top full : ℤ} (l : IsLimit m) (h : Within m x) (fx : SFits w32 x) (ft : SFits w64 t) (t_is : t ≡ back x +ℤ back x)
+    (top_is : top ≡ pos m) (full_is : full ≡ pos (2 * m)) where
+  twice : wide t ≡ x +ℤ x
+  twice = to_z-of_z ft ∙ rw (to_z-of_z fx) at t_is
 
-full : (c : Start) → to_z w64 (2 * c.args.m) ≡ pos (2 * c.args.m)
-full c = to_z_pos w64 (omega (arith, at_most c.requires.limit))
+  limit : wide top ≡ pos m
+  limit = rw top_is (to_z-of_z {w = w64} (record { sfits = omega (arith, at_most l) }))
 
-twice : (c : After-double-twice) → to_z w64 (of_z w64 c.double-twice.result) ≡ c.args.x +ℤ c.args.x
-twice c =
-    let f : SFits w64 c.double-twice.result = record { sfits = c.double-twice.type_inv } in
-    to_z-of_z f ∙ rw (to_z-of_z c.ranges.x) at c.double-twice.ensures
+  circle : wide full ≡ pos (2 * m)
+  circle = rw full_is (to_z-of_z {w = w64} (record { sfits = omega (arith, at_most l) }))
 
-minus-fits : (c : Start) → SFits w64 (pos 0 -ℤ to_z w64 c.args.m)
-minus-fits c = minus-limit-fits w64 c.args.m (pos 0) (omega arith) (record { sfits = omega arith })
+  low : wide (pos 0 -ℤ wide top) ≡ neg_ℤ (pos m)
+  low = rw (limit, zero_minus (pos m)) (to_z-of_z {w = w64} (record { sfits = omega (arith, at_most l, mag_neg-pos m) }))
 
-low : (c : After-double-twice) → to_z w64 (of_z w64 (pos 0 -ℤ to_z w64 c.args.m)) ≡ neg_ℤ (pos c.args.m)
-low c = to_z-of_z (minus-fits c.before) ∙ rw (top c.before) (zero_minus (pos c.args.m))
+  fits : SFits w32 (shift_left m x)
+  fits = within-fits l (shift-left-mag m (one l) x)
 
-below : (c : Then-twice-top) → to_z w64 (of_z w64 c.double-twice.result) +ℤ to_z w64 (2 * c.args.m) ≡ shift_left c.args.m c.args.x
-below c =
-    rw (twice c.before, full c.before.before) (double-below c.args.m c.args.x c.requires.within (rw (twice c.before, low c.before) at c.if-twice-top.true))
+  below : lt_z (wide t) (wide (pos 0 -ℤ wide top)) ≡ true → back (wide (wide t +ℤ wide full)) ≡ shift_left m x
+  below p = rw (twice, circle, double-below m x h (rw (twice, low) at p), to_z-of_z (widen fits)) (to_z-of_z fits)
 
-inside : (c : Else-top-twice) → to_z w64 (of_z w64 c.double-twice.result) ≡ shift_left c.args.m c.args.x
-inside c =
-    twice c.before.before
-    ∙ double-inside c.args.m c.args.x c.requires.within
-    (rw (twice c.before.before, low c.before.before) at c.if-twice-top.false)
-    (rw (twice c.before.before, top c.before.before.before) at c.if-top-twice.false)
+  above : le_z (wide top) (wide t) ≡ true → back (wide (wide t -ℤ wide full)) ≡ shift_left m x
+  above p = rw (twice, circle, double_above m x h (rw (twice, limit) at p), to_z-of_z (widen fits)) (to_z-of_z fits)
 
-above : (c : Then-top-twice) → to_z w64 (of_z w64 c.double-twice.result) -ℤ to_z w64 (2 * c.args.m) ≡ shift_left c.args.m c.args.x
-above c =
-    rw (twice c.before.before, full c.before.before.before) (double_above c.args.m c.args.x c.requires.within (rw (twice c.before.before, top c.before.before.before) at c.if-top-twice.true))
+  inside : lt_z (wide t) (wide (pos 0 -ℤ wide top)) ≡ false → le_z (wide top) (wide t) ≡ false → back (wide t) ≡ shift_left m x
+  inside p q = rw (twice, double-inside m x h (rw (twice, low) at p) (rw (twice, limit) at q)) (to_z-of_z fits)
 
-pub overflow_mul-full : goal.overflow_mul-full
-overflow_mul-full c = record { fits = omega (arith, at_most c.requires.limit) }
+pub overflow_mul-m : goal.overflow_mul-m
+overflow_mul-m c = record { fits = omega (arith, at_most c.requires.limit) }
 
 pub returns-then-twice-top-clause-value : goal.returns-then-twice-top-clause-value
 returns-then-twice-top-clause-value c =
-    let f = fits c.before.before in
-    rw (below c, to_z-of_z (widen f), to_z-of_z f) refl
+    below c.requires.limit c.requires.within c.ranges.x (record { sfits = c.double-twice.type_inv }) c.double-twice.ensures c.from-top.ensures c.from-full.ensures
+    c.if-twice-top.true
 
 pub returns-then-top-twice-clause-value : goal.returns-then-top-twice-clause-value
 returns-then-top-twice-clause-value c =
-    let f = fits c.before.before.before in
-    rw (above c, to_z-of_z (widen f), to_z-of_z f) refl
+    above c.requires.limit c.requires.within c.ranges.x (record { sfits = c.double-twice.type_inv }) c.double-twice.ensures c.from-top.ensures c.from-full.ensures
+    c.if-top-twice.true
 
 pub returns-clause-value : goal.returns-clause-value
 returns-clause-value c =
-    let f = fits c.before.before.before in
-    rw (inside c, to_z-of_z f) refl
+    inside c.requires.limit c.requires.within c.ranges.x (record { sfits = c.double-twice.type_inv }) c.double-twice.ensures c.from-top.ensures c.from-full.ensures
+    c.if-twice-top.false c.if-top-twice.false

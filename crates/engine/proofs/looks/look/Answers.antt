@@ -20,7 +20,7 @@ returns-then-number-eq0 c input m z =
 pub cost-cycles-requires : goal.cost-cycles-requires
 cost-cycles-requires c =
     let k = reads c.args.p c.args.image.now c.args.at c.requires.image_value c.if-at-ne0.false c.requires.iar_le_t c.if-iar-p.false c.read_cell-i.ensures in
-    record { prices_value = c.requires.prices_value; i_value = is-fit k c.if-number-eq0.false }
+    is-fit k c.if-number-eq0.false
 
 pub returns-then-allowance-cycles : goal.returns-then-allowance-cycles
 returns-then-allowance-cycles c input m z =

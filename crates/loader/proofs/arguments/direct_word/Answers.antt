@@ -11,7 +11,7 @@ use Rattle.loader.proofs.ArgumentLaws.{after-m, direct-checked}
 use Rattle.loader.proofs.arguments.direct_word.Goals as goal
 
 pub indexed-requires : goal.indexed-requires
-indexed-requires c = let l = limits c.args.limits.parameters c.args.limits.fit in (omega arith, omega (arith, l.b-high, l.s-high))
+indexed-requires c = let l = limits c.args.limits.parameters c.args.limits.fit in omega (arith, l.b-high, l.s-high)
 
 pub returns : goal.returns
 returns c =

@@ -7,7 +7,7 @@ use Rattle.loader.proofs.ArgumentLaws.{register-checked}
 use Rattle.loader.proofs.arguments.register_word.Goals as goal
 
 pub indexed-requires : goal.indexed-requires
-indexed-requires c = let l = limits c.args.limits.parameters c.args.limits.fit in (omega arith, omega (arith, l.n-high))
+indexed-requires c = let l = limits c.args.limits.parameters c.args.limits.fit in omega (arith, l.n-high)
 
 pub returns : goal.returns
 returns c =

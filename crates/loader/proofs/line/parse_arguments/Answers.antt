@@ -1,56 +1,26 @@
--- `line::parse_arguments` meets its contract, by the laws of LineLaws at each way out of the loop and each turn. Assumes nothing.
-use mathlib.Core.Path.{◌≡◌, refl, sym, ap, ◌∙◌}
-use mathlib.Core.Bool.{Bool, true, false, cond}
-use Prim.Native.Nat.{ℕ}
-use native.Mathlib.Omega.{arith}
+-- `line::parse_arguments` meets its contract: each argument is read at its form, and no word is left. Assumes nothing.
+use Rattle.std.proofs.Common.{sym, refl, arith}
+use Rattle.text.specs.Words.{words_left}
 use lib.ListN.{length-set}
-use Rattle.model.specs.Load.{Checked, fault}
-use Rattle.model.specs.Words.{Cell}
-use Rattle.loader.specs.Faults.{checked_of}
-use Rattle.loader.proofs.LineLaws.{at-start, slot_free, too_few, too_many, all_read, at-fault, at-word}
+use Rattle.loader.proofs.LineLaws.{at-start, forms-few, at-argument, all_read, too_many}
 use Rattle.loader.proofs.line.parse_arguments.Goals as goal
 
-pub loop-rest-init : goal.loop-rest-init
-loop-rest-init c =
-    let a = c.args in
-    (refl, at-start a.limits.parameters a.number a.l.now a.from a.forms c.requires.1 c.requires.0)
+pub loop-argument-init : goal.loop-argument-init
+loop-argument-init c = (refl, at-start c.args.limits.parameters c.args.number (words_left c.args.words) _ c.requires)
 
-pub returns-then-start-end : goal.returns-then-start-end
-returns-then-start-end c =
-    let a = c.args in
-    sym (too_few a.limits.parameters a.number a.l.now a.from c.loop-rest.invariant.1 c.loop-rest-test.true c.next_word-w.ensures c.if-start-end.true)
+pub next_argument-requires : goal.next_argument-requires
+next_argument-requires c = forms-few c.args.limits.parameters c.args.number (words_left c.args.words) c.loop-argument.invariant.1
 
--- The fault's number, whichever it is.
-number-chosen : (b : Bool) (n k : ℕ) → n ≡ cond b k 12 → ◌≡◌ {A = Checked Cell} (fault n) (cond b (fault k) (fault 12))
-number-chosen true n k e = ap fault e
-number-chosen false n k e = ap fault e
+pub loop-argument-preserved : goal.loop-argument-preserved
+loop-argument-preserved c =
+    let inv = c.loop-argument.invariant in
+    (simp length-set inv.0, at-argument c.args.limits.parameters c.args.number (words_left c.args.words) inv.1 c.in_ok-argument.field-0 inv.0 (omega (arith, c.loop-argument-test.true)) (c.in_ok-argument.ensures _ _))
 
-pub returns-in-Err : goal.returns-in-Err
-returns-in-Err c =
-    let a = c.args in
-    let is = sym c.argument_word.ensures ∙ ap (checked_of (λ x. x)) c.in-Err.is in
-    number-chosen _ _ _ c.fault_unless_miscounted.ensures
-    ∙ sym (at-fault a.limits.parameters a.number a.l.now a.from c.loop-rest.invariant.1 c.loop-rest-test.true c.next_word-w.ensures c.if-start-end.false _ is)
+pub returns-in-None : goal.returns-in-None
+returns-in-None c =
+    let inv = c.loop-argument.invariant in
+    sym (all_read c.args.limits.parameters c.args.number (words_left c.args.words) inv.1 inv.0 (omega (arith, c.loop-argument-test.false, c.loop-argument.auto.argument-index-end)) c.in-None.ensures.steps.0)
 
-pub bounds-arguments-i : goal.bounds-arguments-i
-bounds-arguments-i c =
-    let a = c.args in
-    omega (arith, slot_free a.limits.parameters a.number a.l.now a.from c.loop-rest.invariant.1 c.loop-rest-test.true)
-
-pub loop-rest-preserved : goal.loop-rest-preserved
-loop-rest-preserved c =
-    let a = c.args in
-    let is = sym c.argument_word.ensures ∙ ap (checked_of (λ x. x)) c.in-Ok.is in (
-      simp length-set c.loop-rest.invariant.0,
-      at-word a.limits.parameters a.number a.l.now a.from c.loop-rest.invariant.1 c.loop-rest-test.true c.next_word-w.ensures c.if-start-end.false _ is,
-    )
-
-pub returns-then-count_words-ne0 : goal.returns-then-count_words-ne0
-returns-then-count_words-ne0 c =
-    let a = c.args in
-    sym (too_many a.limits.parameters a.number a.l.now a.from c.loop-rest.invariant.1 c.loop-rest-test.false (λ e. c.if-count_words-ne0.true (c.count_words.ensures ∙ e)))
-
-pub returns : goal.returns
-returns c =
-    let a = c.args in
-    sym (all_read a.limits.parameters a.number a.l.now a.from c.loop-rest.invariant.1 c.loop-rest-test.false (sym c.count_words.ensures ∙ c.if-count_words-ne0.false))
+pub returns-in-Some : goal.returns-in-Some
+returns-in-Some c =
+    sym (too_many c.args.limits.parameters c.args.number (words_left c.args.words) c.loop-argument.invariant.1 (omega (arith, c.loop-argument-test.false)) c.in-Some.ensures.steps)

@@ -5,10 +5,5 @@ use Rattle.loader.specs.Keys.{Finds}
 use Rattle.loader.proofs.NameLaws.{long-found}
 use Rattle.loader.proofs.names.find_long.Goals as goal
 
-pub returns-in_err-i : goal.returns-in_err-i
-returns-in_err-i c =
-    let w = c.args.w.now in
-    subst (λ (o : Option ℕ). Finds o (lookup w)) (sym c.from_residual.ensures) (long-found w c.requires c.find_word.ensures.value c.in_err-i.was)
-
 pub returns : goal.returns
-returns c = long-found c.args.w.now c.requires c.find_word.ensures.value c.in_ok-i.was
+returns c = let w = c.args.w.now in subst (λ (o : Option ℕ). Finds o (lookup w)) (sym c.find_word.ensures) (long-found w c.requires)

@@ -7,12 +7,6 @@ use Rattle.loader.specs.Keys.{key_from}
 use Rattle.loader.proofs.NameLaws.{key-end, key_byte, key-bits, key_fits}
 use Rattle.loader.proofs.names.word_key.Goals as goal
 
-pub overflow_mul-key : goal.overflow_mul-key
-overflow_mul-key c =
-    let inv = c.loop-b.invariant in
-    let f = key_fits c.loop-b.key 0 c.loop-b.b-index inv.1 (omega arith) (omega arith) in
-    omega arith
-
 pub overflow_add-key : goal.overflow_add-key
 overflow_add-key c =
     let inv = c.loop-b.invariant in
@@ -26,8 +20,8 @@ loop-b-preserved c =
     let k = c.loop-b.key in
     let i = c.loop-b.b-index in (
       inv.0,
-      key-bits k c.upper.result i inv.1 c.upper.type_inv,
-      inv.2 ∙ key_byte k w i (omega arith) ∙ ap (λ (u : ℕ). key_from (k * 256 + u) (drop (i + 1) w)) (sym c.upper.ensures),
+      key-bits k c.from.result i inv.1 (omega (arith, c.upper.type_inv, c.from.ensures)),
+      inv.2 ∙ key_byte k w i (omega arith) ∙ ap (λ (u : ℕ). key_from (k * 256 + u) (drop (i + 1) w)) (sym (c.from.ensures ∙ c.upper.ensures)),
     )
 
 pub returns : goal.returns

@@ -1,18 +1,12 @@
 -- `put_values` meets its contract. Assumes nothing.
-use mathlib.Core.Path.{refl}
 use native.Mathlib.Omega.{arith}
 use lib.IntN.{pos}
 use lib.ListN.{get_or}
 use mir.Facts.{to_z-of_z}
 use mir.Syntax.{w32}
 use mir.Val.{SFits}
-use Rattle.model.specs.Lines.{value_lines}
 use Rattle.session.proofs.Pieces.{value-line-length, lines_next, put_then}
 use Rattle.session.proofs.printing.put_values.Goals as goal
-
-pub loop-value-init : goal.loop-value-init
-unfolding value_lines
-loop-value-init c = (omega arith, omega arith, record { room = omega arith; end = refl; bytes = refl })
 
 pub loop-value-preserved : goal.loop-value-preserved
 loop-value-preserved c =
