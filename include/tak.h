@@ -30,7 +30,7 @@
  *
  * To store a machine, store record, registers and data cells, and image and input (tak_load makes the same image of the same text), and
  * the last ending if it is wanted. It goes on from them at any time, in another process too; without the ending a grant of 0 goes on
- * with the leftover and tells how that ends.
+ * with the leftover and tells how that ends. A record from before version 0.3.0 lacks the last number; CALLS.md says how to carry it over.
  */
 #ifndef TAK_H
 #define TAK_H
@@ -44,9 +44,9 @@ extern "C" {
 
 /* The version of this interface. */
 #define TAK_VERSION_MAJOR 0
-#define TAK_VERSION_MINOR 2
+#define TAK_VERSION_MINOR 3
 #define TAK_VERSION_PATCH 0
-#define TAK_VERSION "0.2.0"
+#define TAK_VERSION "0.3.0"
 
 /* Limits. */
 #define TAK_MIN_K 8                                /* K is TAK_MIN_K to TAK_MAX_K */
@@ -60,7 +60,7 @@ extern "C" {
 #define TAK_MAX_GRANTED UINT64_C(1000000000000000) /* cycles of all grants of a machine together, 10^15 */
 
 /* Lengths of slices that the parameters do not fix. */
-#define TAK_RECORD_LENGTH 11  /* numbers of a record */
+#define TAK_RECORD_LENGTH 12  /* numbers of a record */
 #define TAK_DECIMAL_LENGTH 11 /* bytes that tak_decimal asks for */
 
 /* Stack that a call needs at most, in bytes. */
@@ -81,7 +81,8 @@ enum {
     TAK_SHR,     /* the data cell on top of the stack: B - 1 (the stack is empty) to S - 1 */
     TAK_PLACE,   /* the first byte of the input that is not read yet, which a failing IN leaves: 0 to the input's length */
     TAK_GRANTED, /* the cycles of all accepted grants together: 0 to TAK_MAX_GRANTED */
-    TAK_SPENT    /* the cycles spent: 0 to granted; granted less spent is the leftover */
+    TAK_SPENT,   /* the cycles spent: 0 to granted; granted less spent is the leftover */
+    TAK_DEEPEST  /* the greatest SHR reached since start: SHR to S - 1; see tak_grant */
 };
 
 /* How an accepted grant ended; 0 stands for a refused one. A grant looks before each step, in this order. A machine that has failed, or
@@ -130,7 +131,7 @@ enum {
     TAK_REFUSED_ARGUMENT_RANGE = 14,
         /* an argument of the line is a register not below N, a cell not below B, or a number outside -M to M - 1. tak_load */
     TAK_REFUSED_RECORD = 15,
-        /* a number of the record, a register or a data cell is outside its limits. tak_grant */
+        /* IAR, IRCR, SHR, place, granted, spent or deepest of the record, a register or a data cell is outside its limits. tak_grant */
     TAK_REFUSED_INPUT_LENGTH = 16,
         /* the input has more than 65,536 bytes. tak_grant */
     TAK_REFUSED_CYCLES = 17,
@@ -151,8 +152,8 @@ uint32_t tak_load(uint32_t k, uint32_t n, uint32_t s, uint32_t b, uint32_t t,
                   uint32_t *image, size_t image_length,
                   uint64_t *lines, uint64_t *line);
 
-/* Writes the fresh record (the parameters, SHR = B - 1, all else 0) and zeroes the N registers and S data cells. It is also how a machine
- * begins anew.
+/* Writes the fresh record (the parameters, SHR and deepest = B - 1, all else 0) and zeroes the N registers and S data cells. It is also
+ * how a machine begins anew.
  * Checks, in order: 100 1 2 3 4 5 6 9 10. */
 uint32_t tak_start(uint32_t k, uint32_t n, uint32_t s, uint32_t b, uint32_t t,
                    const uint32_t *image, size_t image_length,
@@ -174,6 +175,10 @@ uint32_t tak_start(uint32_t k, uint32_t n, uint32_t s, uint32_t b, uint32_t t,
  * After TAK_OUTPUT_FULL use the values and grant 0, with this slice or another: the leftover of the earlier grant pays for the rest. A
  * slice shorter than N or S never takes that dump: TAK_OUTPUT_FULL with 0 values says that the whole slice is too short for the next
  * step, and a loop that only grants 0 again with the same slice never ends. A slice of the greater of N and S values always suffices.
+ *
+ * record[TAK_DEEPEST] becomes the greatest of what it was and SHR after each step of the call; POP does not lower it, and a PUSH that
+ * fails does not raise it. S = record[TAK_DEEPEST] + 1, or 1 if that is 0, is the least S with which the run would have come as far;
+ * where a PUSH has failed this is S as it is, and the run needs more. TCL.md says how to choose S by it.
  *
  * A call returns when an ending holds and not before, and may spend the whole leftover, that of earlier grants included: who grants
  * more after each full output, instead of 0, gathers up to 10^15 cycles, which one later call then spends. 10^9 cycles may take several

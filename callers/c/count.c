@@ -1,4 +1,4 @@
-/* Loads a small program, grants it cycles in three parts and prints what each call replies; then shows that a refused call changes nothing. */
+/* Loads a small program, grants it cycles in parts and prints what each call replies; then shows that a refused call changes nothing. */
 #include <inttypes.h>
 #include <stdio.h>
 #include <string.h>
@@ -77,13 +77,17 @@ int main(void)
     uint32_t image_before[4 * T];
     int64_t record_before[TAK_RECORD_LENGTH];
 
-    load("SET R0 13\nSET R2 -10\nDIV R0 R2 R2\nOUT R2\n");
+    load("SET R0 13\nSET R2 -10\nDIV R0 R2 R2\nOUT R2\nPUSH R2\nPOP R0\n");
     start();
     grant(52);
     grant(50);
     grant(1);
+    grant(16);
     printf("record: IAR %" PRId64 ", IRCR %" PRId64 ", granted %" PRId64 ", spent %" PRId64 "\n", record[TAK_IAR],
            record[TAK_IRCR], record[TAK_GRANTED], record[TAK_SPENT]);
+    /* The stack was one deep and is empty again: B + 1 data cells would do. */
+    printf("stack: SHR %" PRId64 ", deepest %" PRId64 ", least S %" PRId64 "\n", record[TAK_SHR], record[TAK_DEEPEST],
+           record[TAK_DEEPEST] + 1);
 
     memcpy(image_before, image, sizeof image);
     memcpy(record_before, record, sizeof record);

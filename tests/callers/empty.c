@@ -76,6 +76,7 @@ int main(void)
     expect("a start", start(), 0);
     expect("PUSH without room for values", grant(NULL, 0), 0);
     expect("its ending", ending, TAK_ENDED);
+    expect("its deepest", (uint64_t)record[TAK_DEEPEST], B);
     expect("a grant without a record",
            tak_grant(NULL, 0, 0, image, 4 * T, NULL, 0, registers, N, cells, S, NULL, 0, &ending, &values, &spent),
            TAK_REFUSED_RECORD_LENGTH);

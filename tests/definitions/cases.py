@@ -5,12 +5,15 @@ import random
 import re
 import sys
 
-from model import DIRECT, NAMES, NUMBER, REGISTER, SPECIAL, grant, load, places, read_line, start_refusal, write_decimal
+from deepest import SHOWN, shown
+from model import (
+    DIRECT, FIELDS, NAMES, NUMBER, REGISTER, SPECIAL, fresh_record, grant, load, places, price, read_line, start_refusal, write_decimal,
+)
 
-FIELDS = "k n s b t iar ircr shr place granted spent".split()
 ENDINGS = ["Failed", "Ended", "Paused", "OutputFull"]
 ODD_ARGUMENTS = "R DM R-1 R+1 X1 D1 1a + - R256 R258 RR0 12- iarx \x80".split()
 OFTEN = "SET SET SET OUT OUT PUSH POP IN ADD SUB JMPLT JMPNEQ INC DEC MOV RSR ASR RSL DIV MOD MUL DUMP_REG".split()
+SEEN = set()  # of SHOWN
 
 rnd = random.Random(int(sys.argv[1]))
 
@@ -20,8 +23,12 @@ def chance(p):
 
 
 # What antt reads.
+def integer(x):
+    return "pos %d" % x if x >= 0 else "negsuc %d" % (-x - 1)
+
+
 def integers(xs):
-    return "(" + "".join(("pos %d" % x if x >= 0 else "negsuc %d" % (-x - 1)) + " ∷ " for x in xs) + "[])"
+    return "(" + "".join(integer(x) + " ∷ " for x in xs) + "[])"
 
 
 def naturals(xs):
@@ -33,8 +40,7 @@ def parameters_term(p):
 
 
 def record_term(r):
-    shr = "pos %d" % r["shr"] if r["shr"] >= 0 else "negsuc %d" % (-r["shr"] - 1)
-    rest = "iar = %d; ircr = %d; shr = %s; place = %d; granted = %d; spent = %d" % (r["iar"], r["ircr"], shr, r["place"], r["granted"], r["spent"])
+    rest = "; ".join("%s = %s" % (f, integer(r[f]) if f in ("shr", "deepest") else r[f]) for f in FIELDS[5:])
     return "record { parameters = %s; %s }" % (parameters_term([r[f] for f in "knsbt"]), rest)
 
 
@@ -122,16 +128,17 @@ def random_record(p, text):
     """The fresh record and memory, or any other."""
     k, n, s, b, t = p
     m = 2 ** (k - 1)
-    record = dict(zip(FIELDS, (k, n, s, b, t, 0, 0, b - 1, 0, 0, 0)))
+    record = fresh_record(p)
     registers, data = [0] * n, [0] * s
     if chance(0.7):
         granted = 10**15 - 60 if chance(0.05) else 100
-        record.update(iar=rnd.randrange(min(t, 3)), shr=rnd.randint(b - 1, s - 1), place=rnd.randint(0, len(text)))
-        record.update(granted=granted, spent=granted - rnd.choice([0, 50, 100]))
+        shr = rnd.randint(b - 1, s - 1)
+        record.update(iar=rnd.randrange(min(t, 3)), shr=shr, place=rnd.randint(0, len(text)))
+        record.update(granted=granted, spent=granted - rnd.choice([0, 50, 100]), deepest=rnd.randint(shr, s - 1))
         registers, data = [random_value(m) for _ in registers], [random_value(m) for _ in data]
     if chance(0.08):
         odd = [("iar", t), ("iar", t + 1), ("ircr", 1), ("ircr", 3), ("ircr", 4), ("shr", b - 2), ("shr", s), ("place", len(text) + 1)]
-        odd += [("spent", record["granted"] + 1)]
+        odd += [("spent", record["granted"] + 1), ("deepest", record["shr"] - 1), ("deepest", s)]
         field, value = rnd.choice(odd)
         record[field] = value
     if chance(0.02):
@@ -152,18 +159,20 @@ def flat(record):
 def call_start(p, image):
     registers, data = [rnd.randint(-9, 9)] * (p[1] + chance(0.03)), [rnd.randint(-9, 9)] * (p[2] + chance(0.03))
     refusal = start_refusal(p, image, registers, data)
-    left = flat(dict(zip(FIELDS, p + (0, 0, p[3] - 1, 0, 0, 0)))) + [0] * (p[1] + p[2])
-    said = [refusal] + ([0] * 11 + registers + data if refusal else left)
+    left = flat(fresh_record(p)) + [0] * (p[1] + p[2])
+    said = [refusal] + ([0] * len(FIELDS) + registers + data if refusal else left)
     return "starts (%s) %s %s %s" % (parameters_term(p), naturals(image), integers(registers), integers(data)), integers(said)
 
 
-def call_grants(p, image):
-    text = random_input()
-    record, registers, data = random_record(p, text)
-    for _ in range(rnd.randint(1, 3)):
-        cycles = rnd.choice([0, 1, 5, 30, 52, 60, 150, 400, 1000, 5000]) if chance(0.97) else 10**9 + 1
+def random_cycles():
+    return rnd.choice([0, 1, 5, 30, 52, 60, 150, 400, 1000, 5000]) if chance(0.97) else 10**9 + 1
+
+
+def call_grants(image, text, record, registers, data, amounts):
+    for cycles in amounts:
         out = [9] * rnd.choice([0, 1, 3, 6, 12])
         outcome, after, values, spent, registers2, data2, out2 = grant(record, image, text, registers, data, cycles, out)
+        SEEN.update(shown(image, record, outcome, after))
         number = [0, outcome] if isinstance(outcome, int) else [ENDINGS.index(outcome) + 1]
         said = number + flat(after) + [values, spent] + registers2 + data2 + out2
         yield "grants %s %s (%s) %s %s %d %s" % (
@@ -172,11 +181,27 @@ def call_grants(p, image):
         record, registers, data = after, registers2, data2
 
 
+def call_stack(turn):
+    """Grants to a program of PUSH and POP; by turns, `deepest` at each side of each of its bounds and between them, and B at both of its own."""
+    s, t = rnd.randint(2, 5), rnd.randint(4, 12)
+    b = (0, rnd.randint(0, s), s)[turn // 5 % 3]
+    p = (8, rnd.randint(1, 2), s, b, t)
+    lines = [mended(p, name) for name in ["PUSH", "POP"] + rnd.choices(("PUSH", "POP"), k=t - 2)]
+    image = load(p, b"\n".join(lines), [0] * (4 * t))[1]
+    fresh = turn < 15
+    shr = b - 1 if fresh else rnd.randint(b - 1, max(b - 1, s - 3))
+    deepest = (shr - 1, shr, (shr + s) // 2, s - 1, s)[turn % 5]
+    push, pop = (price(read_line(p, line), p[1], s) for line in lines[:2])
+    amounts = [push + pop] if fresh else [push, pop]
+    record = {**fresh_record(p), "shr": shr, "deepest": deepest}
+    return call_grants(image, b"", record, [3] * p[1], [5] * s, amounts + rnd.choices((0, 8, 16, 24, 40, 60), k=2))
+
+
 def call_decimal():
     z = rnd.choice([0, 9, 10, -1, -10, 2**31 - 1, -(2**31), rnd.randint(-(2**31), 2**31 - 1), rnd.randint(-2000, 2000)])
     old = [rnd.randrange(256) for _ in range(rnd.choice([0, 9, 10, 11, 12, 14]))]
     reply, written = write_decimal(z, old)
-    return "spells (%s) %s" % ("pos %d" % z if z >= 0 else "negsuc %d" % (-z - 1), naturals(old)), integers(list(reply) + written)
+    return "spells (%s) %s" % (integer(z), naturals(old)), integers(list(reply) + written)
 
 
 def calls(count):
@@ -191,7 +216,10 @@ def calls(count):
         if reply[0] == 0:
             image = damaged(image)
             yield call_start(p, image)
-            yield from call_grants(p, image)
+            text = random_input()
+            yield from call_grants(image, text, *random_record(p, text), [random_cycles() for _ in range(rnd.randint(1, 3))])
+    for turn in range(30):
+        yield from call_stack(turn)
 
 
 HEAD = """
@@ -208,7 +236,8 @@ outcome (Stopped e) = pos (ending e) ∷ []
 flat : Record → List ℤ
 flat r =
     pos r.parameters.k ∷ pos r.parameters.n ∷ pos r.parameters.s ∷ pos r.parameters.b ∷ pos r.parameters.t
-    ∷ pos r.iar ∷ pos r.ircr ∷ r.shr ∷ pos r.place ∷ pos r.granted ∷ pos r.spent ∷ []
+    ∷ pos r.iar ∷ pos r.ircr ∷ r.shr ∷ pos r.place ∷ pos r.granted ∷ pos r.spent
+    ∷ r.deepest ∷ []
 
 loads : Parameters → List ℕ → List ℕ → List ℤ
 loads p text old =
@@ -256,6 +285,8 @@ def main():
         lines.append("case%d : %s ≡ %s" % (i, computed, said))
         lines.append("unfolding flat loads starts spells grants xor %s" % " ".join(opened))
         lines.append("case%d = refl\n" % i)
+    if SEEN != SHOWN:
+        sys.exit("no grant shows `deepest` " + ", ".join(sorted(SHOWN - SEEN)))
     print("\n".join(lines))
 
 

@@ -1,4 +1,4 @@
-"""The TAK machine, written from documents 003 and 01 and not from the definitions of crates/model/specs, which are compared with it."""
+"""The TAK machine, written from documents 003, 01 and 02 and not from the definitions of crates/model/specs, which are compared with it."""
 
 NAMES = (
     "CLEAR_REG CLEAR_DATA_MEM DUMP_REG DUMP_DATA_MEM IN OUT MOV SET PUSH POP SETT SETF NOT AND OR XOR NAND NOR NEG ABS ADD SUB MUL DIV MOD"
@@ -7,6 +7,7 @@ NAMES = (
 ).split()
 REGISTER, SPECIAL, DIRECT, NUMBER = "register", "special", "direct", "number"
 SPECIALS = {"IAR": 256, "IRCR": 257, "SHR": 258}
+FIELDS = "k n s b t iar ircr shr place granted spent deepest".split()
 DIGITS = b"0123456789"
 BLANKS = b" \t\r\n"
 
@@ -201,6 +202,12 @@ def start_refusal(parameters, image, registers, data):
     return 0 if image_fits(parameters, image) else 10
 
 
+def fresh_record(parameters):
+    """All 0 but SHR and the greatest SHR reached since start, which are B-1."""
+    below = parameters[3] - 1
+    return {**dict.fromkeys(FIELDS, 0), **dict(zip("knsbt", parameters)), "shr": below, "deepest": below}
+
+
 class Failure(Exception):
     """A step's return code other than 0."""
 
@@ -353,6 +360,7 @@ def grant_refusal(record, image, text, registers, data, cycles):
         record["iar"] <= t
         and record["ircr"] <= 3
         and b - 1 <= record["shr"] <= s - 1
+        and record["shr"] <= record["deepest"] <= s - 1
         and record["spent"] <= record["granted"] <= 10**15
         and record["place"] <= len(text)
         and all(-(2 ** (k - 1)) <= v < 2 ** (k - 1) for v in registers + data)
@@ -371,7 +379,7 @@ def grant(record, image, text, registers, data, cycles, out):
         return refusal, record, 0, 0, registers, data, out
     parameters = tuple(record[f] for f in "knsbt")
     machine = Machine(parameters, text, record, registers, data)
-    granted, spent = record["granted"] + cycles, record["spent"]
+    granted, spent, deepest = record["granted"] + cycles, record["spent"], record["deepest"]
     while True:
         cell = decode(parameters, image[4 * machine.iar : 4 * machine.iar + 4]) if machine.iar < machine.t else None
         if machine.ircr:
@@ -390,8 +398,9 @@ def grant(record, image, text, registers, data, cycles, out):
             break
         machine.step(cell)
         spent += cost
-    changed = {"iar": machine.iar, "ircr": machine.ircr, "shr": machine.shr, "place": machine.place, "granted": granted, "spent": spent}
-    after = {**record, **changed}
+        deepest = max(deepest, machine.shr)
+    state = {"iar": machine.iar, "ircr": machine.ircr, "shr": machine.shr, "place": machine.place}
+    after = {**record, **state, "granted": granted, "spent": spent, "deepest": deepest}
     wrote = machine.out
     return ending, after, len(wrote), spent - record["spent"], machine.registers, machine.data, wrote + out[len(wrote) :]
 

@@ -1,6 +1,6 @@
 """Compares the functions that the crate tak_c exports with their declarations: names, order, types, constness, lengths of slices, result; with the
 calls of the crate tak behind them, whose parameters and clauses they state word for word; and the header's constants with those of the Rust package,
-by which tests/model reads records and endings, with the source's, and with the numbers that docs/CALLS.md has beside them.
+by which tests/model reads records and endings, with the source's, and with the numbers that docs/CALLS.md has beside them, or the order in which it has them.
 
 A function in one form: its name, its result, and of each parameter the name, what it is ("" a number, "in" a pointer that the call reads
 through, "out" one that it may write through) and the type of the number. A slice is two parameters, a pointer and its length.
@@ -180,6 +180,14 @@ def other_on_page(header, page):
     return [f"TAK_{name} is {here.get(name)}, on the page {there.get(name)}" for name in sorted(here.keys() | there.keys()) if here.get(name) != there.get(name)]
 
 
+def other_positions(header, page):
+    """A line if the page's table of the record's numbers does not have the header's positions in their order."""
+    here = list(header_constants(re.search(r"enum \{\s*TAK_K,[^}]*\}", header)[0]))
+    table = page[page.index("\n| position |") :].strip().split("\n\n")[0]
+    there = [name for row in table.splitlines() for name in re.findall(r"`TAK_(\w+)`", row.split(" | ")[0])]
+    return [] if here == there else [f"the record's numbers are {' '.join(here)}, on the page {' '.join(there)}"]
+
+
 def differences(exported, declared):
     """A line for each function that is not the same in both."""
     wrong = [f"{name} is declared and not exported" for name in sorted(declared.keys() - exported.keys())]
@@ -264,12 +272,13 @@ def altered_statements(text):
 def altered_constants(text):
     yield "IAR and IRCR exchanged", text.replace("TAK_IAR,", "TAK_#,").replace("TAK_IRCR,", "TAK_IAR,").replace("TAK_#,", "TAK_IRCR,")
     yield "a field missing", re.sub(r"    TAK_PLACE,.*\n", "", text)
+    yield "the last field missing", re.sub(r"    TAK_DEEPEST .*\n", "", text)
     yield "another ending", replaced(text, "TAK_PAUSED = 3", "TAK_PAUSED = 4")
     yield "another length", replaced(text, "TAK_DECIMAL_LENGTH 11", "TAK_DECIMAL_LENGTH 10")
     yield "another limit", replaced(text, "TAK_MAX_GRANT UINT64_C(1000000000)", "TAK_MAX_GRANT UINT64_C(100000000)")
     yield "another bound of a stack", replaced(text, "TAK_GRANT_STACK 1536", "TAK_GRANT_STACK 1535")
     yield "another refusal", replaced(text, "TAK_REFUSED_CYCLES = 17", "TAK_REFUSED_CYCLES = 16")
-    yield "a length and its refusal exchanged", replaced(text, "TAK_RECORD_LENGTH 11", "TAK_RECORD_LENGTH 100")
+    yield "a length and its refusal exchanged", replaced(text, "TAK_RECORD_LENGTH 12", "TAK_RECORD_LENGTH 100")
     yield "a constant missing", re.sub(r"#define TAK_RECORD_LENGTH.*\n", "", text)
     yield "a refusal missing", re.sub(r"    TAK_REFUSED_IMAGE = 10,\n", "", text)
 
@@ -301,6 +310,7 @@ def main():
     count([f"{HEADER}: {line}" for line in other_constants(header, rust[PACKAGE], numbers)])
     page = read(PAGE)
     count([f"{HEADER}: {line}" for line in other_on_page(header, page)])
+    count([f"{HEADER}: {line}" for line in other_positions(header, page)])
     if not wrong:  # each alteration makes something wrong of what is right
         for name, value in page_constants(page).items():
             for old in (f"`TAK_{name}` | {value} |", f"| {value:,} | `TAK_{name}` |"):
@@ -308,6 +318,8 @@ def main():
                     found(f"{name} with another number on the page", other_on_page(header, page.replace(old, old.replace(f"{value:,}", "7"))))
         for what, text in altered_constants(header):
             found(what, other_constants(text, rust[PACKAGE], {}))
+        found("the last row of the record's table missing", other_positions(header, re.sub(r"\| `TAK_DEEPEST`.*\n", "", page)))
+        found("two rows of the record's table exchanged", other_positions(header, re.sub(r"(\| `TAK_GRANTED`.*\n)(.*\n)", r"\2\1", page)))
         for name, value in numbers.items():
             found(f"{name} of the source, one more", other_constants(header, rust[PACKAGE], numbers | {name: value + 1}))
         for what, text in altered_headers(header):

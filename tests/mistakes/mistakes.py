@@ -1,4 +1,4 @@
-"""Runs what docs/TCL.md, "Common mistakes", says and compares what takrun prints: mistakes.py TCL.MD TAKRUN EXAMPLES
+"""Runs what docs/TCL.md, "Common mistakes" and "Choosing S", says and compares what takrun prints: mistakes.py TCL.MD TAKRUN EXAMPLES
 
 Of a row's first column: code parted by "then" are the lines of one text, "or" parts texts, behind "the input being" stand inputs. What the page
 says in other words stands in OTHERS, each with its words, which the page must have. So does the script by which a caller of takrun sees a
@@ -37,6 +37,13 @@ OTHERS = (
     ("instead of `55` and `ENDED 0 5 302`", PARAMETERS, LOOP.format(1), "", ["55", "ENDED 0 5 302"]),
     ("until the sum is above 127: `FAILED 1 2 436`", PARAMETERS, "# 0\n" + LOOP.format(1), "", ["FAILED 1 2 436"]),
     ("With `JMPNEQ 2 R1 R2` it prints `55` and `ENDED 0 6 303`", PARAMETERS, "# 0\n" + LOOP.format(2), "", ["55", "ENDED 0 6 303"]),
+)
+# Words of "Choosing S", parameters and input of the example print, and the last line: the example's own if none.
+STACKS = (
+    ("With `30 6 22 0 64` in `tak.par` takrun prints the same lines as before", "30 6 22 0 64", "10", None),
+    ("with `30 6 21 0 64` the last one is `FAILED 1 34 1352`, the PUSH in line 34", "30 6 21 0 64", "10", "FAILED 1 34 1352"),
+    ("the figure is 2001, and S = 2002 is enough for every input", "30 6 2002 0 64", "1000", "ENDED 0 44 239303"),
+    ("the figure is 2001, and S = 2002 is enough for every input", "30 6 2001 0 64", "1000", "FAILED 1 34 116192"),
 )
 LEFT_OUT = 5  # rows of the tables in other words: those of OTHERS
 EMPTY_LINE = ", an empty line, "
@@ -101,6 +108,16 @@ def other_words(page, takrun):
             yield None
 
 
+def stacks(page, examples, takrun):
+    """A line for each of STACKS that is not so."""
+    example = os.path.join(examples, "print")
+    text, usual = read(os.path.join(example, "tak.tcl")).removesuffix("\n"), read(os.path.join(example, "expected"))
+    for words, parameters, given, last in STACKS:
+        got = run(takrun, text, given, parameters)
+        right = got.splitlines()[-1] == last if last else got == usual
+        yield None if words in page and right else f"the page has not, or takrun prints {got[-40:]!r} for: {words}"
+
+
 def script(page, example, takrun, given=None):
     """What the page's script says of a run of the example, with this input if one is given."""
     lines = re.search(r"^    (\S*/takrun) > result\n    (.*)$", page, re.M)
@@ -133,7 +150,7 @@ def scripts(page, examples, takrun):
 def main():
     page, takrun, examples = read(sys.argv[1]), os.path.abspath(sys.argv[2]), sys.argv[3]
     passed, wrong, left_out = 0, [], []
-    for said in [*other_words(page, takrun), *scripts(page, examples, takrun)]:
+    for said in [*other_words(page, takrun), *stacks(page, examples, takrun), *scripts(page, examples, takrun)]:
         passed += said is None
         wrong += [said] if said else []
     for written, printed in rows(page):

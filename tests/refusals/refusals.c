@@ -1,5 +1,6 @@
 /* Every call with each fault, and with every two that can stand together: prints the call, both faults and what it answered. A fault has the
- * number of the refusal that it is to get; not every call looks for it. */
+ * number of the refusal that it is to get; not every call looks for it. Before that, which of two faulty arguments is told, and the limits of
+ * each number of a record. */
 #include <inttypes.h>
 #include <stdio.h>
 #include <stdlib.h>
@@ -146,9 +147,43 @@ static void two_arguments(void)
     }
 }
 
+/* The record's numbers that 15 is about, each with the least and the greatest that a grant accepts while the others are as here: SHR goes
+ * up to deepest and deepest down to SHR, granted down to spent and spent up to granted. */
+static const struct {
+    int position;
+    int64_t value, least, greatest;
+} numbers[] = {
+    {TAK_IAR, 1, 0, 7},     {TAK_IRCR, 0, 0, 3},   {TAK_SHR, 2, 1, 3},     {TAK_PLACE, 1, 0, 6},
+    {TAK_SPENT, 20, 0, 50}, {TAK_DEEPEST, 3, 2, 4}, {TAK_GRANTED, 50, 20, TAK_MAX_GRANTED},
+};
+
+enum { NUMBERS = sizeof numbers / sizeof *numbers };
+
+/* What a grant answers if one of them is another. */
+static uint32_t grant_with(int i, int64_t value)
+{
+    make_right();
+    cycles = 0, input_length = 6;
+    for (int j = 0; j < NUMBERS; j++)
+        record[numbers[j].position] = j == i ? value : numbers[j].value;
+    return grant();
+}
+
+static void record_limits(void)
+{
+    for (int i = 0; i < NUMBERS; i++) {
+        if (grant_with(i, numbers[i].least) != 0 || grant_with(i, numbers[i].greatest) != 0 ||
+            grant_with(i, numbers[i].least - 1) != TAK_REFUSED_RECORD || grant_with(i, numbers[i].greatest + 1) != TAK_REFUSED_RECORD) {
+            printf("refusals: the record's number %d has other limits\n", numbers[i].position);
+            exit(2);
+        }
+    }
+}
+
 int main(void)
 {
     two_arguments();
+    record_limits();
     for (int c = 0; c < CALLS; c++) {
         make_right();
         printf("%s 0 0 %" PRIu32 "\n", calls[c].name, calls[c].call());

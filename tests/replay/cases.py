@@ -5,16 +5,16 @@ import sys
 
 sys.path.insert(0, os.path.join(os.path.dirname(os.path.abspath(__file__)), "..", "definitions"))
 import model
-from model import DIRECT, NUMBER, REGISTER, SPECIAL, decode, grant, image_fits, load, parameter_refusal, price, start_refusal
+from deepest import shown
+from model import DIRECT, FIELDS, NUMBER, REGISTER, SPECIAL, decode, fresh_record, grant, image_fits, load, parameter_refusal, price, start_refusal
 
-FIELDS = "k n s b t iar ircr shr place granted spent".split()
 ENDINGS = ["Failed", "Ended", "Paused", "OutputFull"]
 BUFFER = 131072  # of the program; what is read stands before blanks
 WORDS, REGISTERS, CELLS, ROOM = 256, 32, 64, 64  # of its arrays
 MARK = 77  # in the register, data and output slices before a call
 TOP = 2**30
 START, IMAGE = (0, 0, 0), (6, 0, 0)
-SEEN = set()  # (call, refusal), ("ending", number) and (instruction, return code)
+SEEN = set()  # (call, refusal), ("ending", number), (instruction, return code) and ("deepest", what it was seen to do)
 
 
 def watched(step):
@@ -100,11 +100,8 @@ class State:
         self.input = (given + tail)[: len(given) + more]
         self.loaded, self.image = load(self.p, text, [7] * words)
         SEEN.add(("load", self.loaded[0]))
-        self.record = self.fresh()
+        self.record = fresh_record(self.p)
         self.registers, self.data = [MARK] * registers, [MARK] * cells
-
-    def fresh(self):
-        return dict(zip(FIELDS, (*self.p, 0, 0, self.p[3] - 1, 0, 0, 0)))
 
     def call(self, call):
         kind, index, value = call
@@ -116,7 +113,7 @@ class State:
             return self.show()
         if kind == 2:
             name = FIELDS[index]
-            self.record = {**self.record, name: signed(value, 64) if name == "shr" else value % 2 ** (64 if index > 7 else 32)}
+            self.record = {**self.record, name: signed(value, 64) if name in ("shr", "deepest") else value % 2 ** (64 if index > 7 else 32)}
             return []
         slots = {3: self.registers, 4: self.data}.get(kind, self.image)
         if index < len(slots):
@@ -129,12 +126,14 @@ class State:
         if refusal:
             self.record = dict.fromkeys(FIELDS, 0)
         else:
-            self.record, self.registers, self.data = self.fresh(), [0] * len(self.registers), [0] * len(self.data)
+            self.record, self.registers, self.data = fresh_record(self.p), [0] * len(self.registers), [0] * len(self.data)
         return [(refusal, *self.record.values()), self.registers, self.data]
 
     def grant(self, room, cycles):
         done = grant(self.record, self.image, self.input, self.registers, self.data, cycles % 2**64, [MARK] * min(room, ROOM))
-        outcome, self.record, values, spent, registers, data, out = done
+        outcome, after, values, spent, registers, data, out = done
+        SEEN.update(("deepest", what) for what in shown(self.image, self.record, outcome, after))
+        self.record = after
         self.registers, self.data = list(registers), list(data)
         number = [outcome, 0] if isinstance(outcome, int) else [0, ENDINGS.index(outcome) + 1]
         SEEN.update({("grant", number[0]), ("ending", number[1])})

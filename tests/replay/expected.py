@@ -1,7 +1,8 @@
 """What the program `replay` must print, by the second machine of tests/definitions.
 
 `expected.py --write` writes crates/replay/stdin and stdout; without it, both are compared with what is stored. The cases of vectors.py, loads.py and
-runs.py have to reach every refusal of every call, every ending, and every instruction with each of its return codes.
+runs.py have to reach every refusal of every call, every ending, every instruction with each of its return codes, and all that a grant can show of
+the record's `deepest`.
 """
 import os
 import sys
@@ -10,6 +11,7 @@ import cases
 import loads
 import runs
 import vectors
+from deepest import SHOWN
 from model import NAMES
 
 STORED = os.path.join(os.path.dirname(os.path.abspath(__file__)), "..", "..", "crates", "replay")
@@ -18,7 +20,8 @@ CODES = {
     **dict.fromkeys(NAMES, (0,)), **dict.fromkeys(ONE_CODE, (0, 1)), "IN": (0, 1, 2, 3), "DIV": (0, 1, 2), "MOD": (0, 2), "JMPT": (0, 1, 2), "JMPF": (0, 1, 2),
 }
 REFUSALS = {"load": (*range(9), 11, 12, 13, 14), "start": (*range(7), 9, 10), "grant": (*range(7), 9, 10, 15, 16, 17)}
-REACHED = {(name, code) for answers in (CODES, REFUSALS, {"ending": range(5)}) for name, codes in answers.items() for code in codes}
+ANSWERS = {**CODES, **REFUSALS, "ending": range(5), "deepest": SHOWN}
+REACHED = {(name, code) for name, codes in ANSWERS.items() for code in codes}
 
 
 def worked_out():

@@ -47,7 +47,8 @@ def tried(rng, p, at):
     k, n, s, b, _ = p
     changes = [field("iar", at), field("ircr", 0)]
     if rng.random() < 0.5:
-        changes += [field("shr", rng.choice((b - 1, b, s - 2, s - 1))), field("place", rng.choice((0, 2, 4, 9, 11)))]
+        shr = rng.choice((b - 1, b, s - 2, s - 1))
+        changes += [field("shr", shr), field("deepest", shr), field("place", rng.choice((0, 2, 4, 9, 11)))]
     values = [register(i, rng.choice((0, -1, -limit(k), limit(k) - 1, edge(rng, k)))) for i in range(n)]
     return changes + rng.sample(values, 2) + [cell(rng.randrange(s), edge(rng, k))]
 
@@ -144,6 +145,23 @@ def list_cases():
         yield case((8, 1, 2, 0, 4), b"JMP %d\n\n\nJMP R0" % target, [START, allow(4), field("iar", 3), field("ircr", 0), register(0, target), allow(4)])
 
 
+def stack_cases():
+    """`deepest`: PUSH raises it, POP, a failing PUSH and a refused grant leave it, start begins it anew; it may stand above all that a call reaches."""
+    text = b"PUSH R0\nPUSH SHR\nPOP R1\nPOP R1\n" + b"PUSH R1\n" * 5
+    for b in (0, 1, 2, 3, 4):
+        for cycles in ((8,) * 9, (100,), (16, 10**9 + 1, 16, 24, 7, 1, 0, 8)):
+            yield case((8, 2, 4, b, 9), text, [START, *map(allow, cycles), START, allow(8)])
+    for b in (0, 2):
+        for deepest in range(b - 2, 5):
+            yield case((8, 2, 4, b, 9), text, [START, field("deepest", deepest), *map(allow, (0, 8, 16, 16, 100))])
+    both = b"PUSH R0\nPOP R1\nJMP 0"  # one cell up and down, from each SHR
+    for shr in range(-1, 4):
+        calls = [START]
+        for deepest in range(shr - 1, 5):
+            calls += [field("iar", 0), field("ircr", 0), field("shr", shr), field("deepest", deepest), allow(8), allow(32)]
+        yield case((8, 2, 4, 0, 3), both, calls)
+
+
 def look_cases():
     """Failed, ended, paused and output full, wherever several of them hold."""
     calls = [START]
@@ -198,8 +216,9 @@ def record_cases():
     values = {
         "iar": (t - 1, t, t + 1, 2**32 - 1), "ircr": (1, 2, 3, 4, 2**32 - 1), "shr": (b - 2, b - 1, s - 1, s, -1, -(2**63), 2**31, 2**63 - 1),
         "place": (2, 3, 4, WIDE), "spent": (100, 101, WIDE, 49), "granted": (100, 99, MOST, MOST + 1, WIDE),
+        "deepest": (b - 1, b, s - 1, s, -1, -(2**63), b - 2**32, b + 2**32, 2**63 - 1),
     }
-    good = {"iar": 0, "ircr": 0, "shr": b - 1, "place": 0, "granted": 100, "spent": 100}
+    good = {"iar": 0, "ircr": 0, "shr": b, "place": 0, "granted": 100, "spent": 100, "deepest": s - 1}
     calls = [START]
     for name, tested in values.items():
         for value in tested:
@@ -214,7 +233,7 @@ def record_cases():
     for wide in (29, 30):
         m = limit(wide)
         yield case((wide, 1, 1, 0, 1), b"OUT R0", [START, *(call for value in (m, -m - 1, m - 1, -m) for call in (register(0, value), allow(0)))])
-    yield case((8, 1, 3, 0, 1), b"POP R0", [START, field("shr", -2), allow(9), field("shr", -1), allow(9), field("ircr", 0), field("shr", 2), allow(9)])
+    yield case((8, 1, 3, 0, 1), b"POP R0", [START, field("shr", -2), allow(9), field("shr", -1), allow(9), field("ircr", 0), field("shr", 2), field("deepest", 2), allow(9)])
     yield case((8, 1, 3, 3, 1), b"PUSH R0", [START, field("shr", 1), allow(9), field("shr", 3), allow(9), field("shr", 2), allow(9)])
 
 
@@ -270,15 +289,17 @@ def random_input(rng, k):
 
 
 def changed(rng, p):
-    """A change within the bounds of a record and memory, or just outside them."""
+    """Changes within the bounds of a record and memory, or just outside them."""
     k, n, s, b, t = p
     m = limit(k)
     if rng.random() < 0.4:
         kind, slots = rng.choice(((3, n), (4, s)))
-        return kind, rng.randrange(slots), rng.choice((edge(rng, k), edge(rng, k), m, -m - 1))
+        return [(kind, rng.randrange(slots), rng.choice((edge(rng, k), edge(rng, k), m, -m - 1)))]
     values = {"iar": (0, t - 1, t, t + 1), "ircr": (0, 0, 1, 3, 4), "shr": (b - 2, b - 1, s - 1, s), "place": (0, 1, 2), "spent": (0, WIDE)}
+    values["deepest"] = values["shr"]
     name = rng.choice(list(values))
-    return field(name, rng.choice(values[name]))
+    raised = [field("deepest", s - 1)] if name == "shr" else []  # above the SHR that there was
+    return raised + [field(name, rng.choice(values[name]))]
 
 
 def random_case(rng):
@@ -286,13 +307,13 @@ def random_case(rng):
     calls = [START]
     for _ in range(rng.randint(2, 7)):
         if rng.random() < 0.35:
-            calls.append(changed(rng, p))
+            calls += changed(rng, p)
         calls.append(allow(rng.choice((0, 1, 5, 20, 52, 100, 150, 300, 600)), rng.choice((0, 1, 2, 3, 8, 17))))
     return case(p, joined(random_line(rng, p) for _ in range(rng.randint(min(p[4], 12) // 2, min(p[4], 24)))), calls, random_input(rng, p[0]))
 
 
 def cases():
     rng = random.Random(5)
-    listed = [*instruction_cases(rng), *short_cases(), *arithmetic_cases(), *input_cases(), *output_cases(), *list_cases(), *look_cases()]
-    listed += [*parameter_cases(), *length_cases(), *image_cases(), *record_cases(), *cycle_cases()]
+    listed = [*instruction_cases(rng), *short_cases(), *arithmetic_cases(), *input_cases(), *output_cases(), *list_cases(), *stack_cases()]
+    listed += [*look_cases(), *parameter_cases(), *length_cases(), *image_cases(), *record_cases(), *cycle_cases()]
     return listed + [random_case(rng) for _ in range(12)]

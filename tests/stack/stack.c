@@ -317,6 +317,9 @@ static void grant_cases(void) {
     cycles = 1000000001;
     measure_grant(17, "a grant that is too large");
     cycles = 0;
+    record[TAK_DEEPEST] = p.s;
+    note(&grant, painted(call_grant, 0x5A));
+    expect(15, "a record with deepest outside its limits");
     image[4 * GREATEST - 4] = 55;
     note(&grant, painted(call_grant, 0x5A));
     expect(10, "an image that no text yields");

@@ -1,9 +1,9 @@
-//! A small program to learn the calls over borrowed slices from: it loads a text, starts a machine, grants cycles three times,
-//! writes the machine's value in decimal and shows refused calls.
+//! A small program to learn the calls over borrowed slices from: it loads a text, starts a machine, grants cycles in parts, writes
+//! the machine's value in decimal, shows how deep the stack has been, and refused calls.
 
 use tak::{DECIMAL_LENGTH, Parameters, Refusal};
 
-const TEXT: &str = "SET R0 13\nSET R2 -10\nDIV R0 R2 R2\nOUT R2\n";
+const TEXT: &str = "SET R0 13\nSET R2 -10\nDIV R0 R2 R2\nOUT R2\nPUSH R2\nPOP R0\n";
 
 fn main() -> Result<(), Refusal> {
     // All five differ, so that no two of them can be exchanged unseen.
@@ -28,7 +28,7 @@ fn main() -> Result<(), Refusal> {
     let mut record = tak::start(parameters, &image, &mut registers, &mut cells)?;
     println!("start: {record:?}");
 
-    for cycles in [52, 50, 1] {
+    for cycles in [52, 50, 1, 16] {
         // The record, the registers and the cells go from one grant to the next as the last one left them.
         let granted = tak::grant(
             &mut record,
@@ -52,6 +52,13 @@ fn main() -> Result<(), Refusal> {
     println!(
         "record: IAR {}, granted {}, spent {}",
         record.iar, record.granted, record.spent
+    );
+    // The stack was one deep and is empty again: B + 1 data cells would do.
+    println!(
+        "stack: SHR {}, deepest {}, least S {}",
+        record.shr,
+        record.deepest,
+        record.deepest + 1
     );
 
     // A refused call says why and leaves the image as it was.

@@ -118,7 +118,7 @@ pub fn load(parameters: Parameters, text: &[u8], image: &mut [u32]) -> Result<us
 /// tak::load(parameters, b"OUT SHR", &mut image)?;
 ///
 /// let record = tak::start(parameters, &image, &mut [7; 2], &mut [7; 4])?;
-/// assert_eq!((record.iar, record.shr, record.spent), (0, 1, 0));
+/// assert_eq!((record.iar, record.shr, record.spent, record.deepest), (0, 1, 0, 1));
 ///
 /// let refused = tak::start(parameters, &image, &mut [7; 3], &mut [7; 4]);
 /// assert_eq!(refused, Err(Refusal::MemoryLength));

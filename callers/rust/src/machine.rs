@@ -179,7 +179,7 @@ impl Machine {
         }
     }
 
-    /// Where the machine stands.
+    /// Where the machine stands, and how deep its stack has been.
     pub fn record(&self) -> &Record {
         &self.record
     }

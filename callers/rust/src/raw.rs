@@ -8,7 +8,7 @@
 use crate::Parameters;
 
 /// How many numbers a record has.
-pub const RECORD_LENGTH: usize = 11;
+pub const RECORD_LENGTH: usize = 12;
 
 /// The bytes that [`decimal`] asks for.
 pub const DECIMAL_LENGTH: usize = 11;
@@ -66,6 +66,8 @@ pub mod record {
     pub const GRANTED: usize = 9;
     /// The cycles spent.
     pub const SPENT: usize = 10;
+    /// The greatest SHR reached since start.
+    pub const DEEPEST: usize = 11;
 }
 
 /// How an accepted grant ended.

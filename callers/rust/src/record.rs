@@ -35,7 +35,8 @@ impl Parameters {
 /// Where a machine stands between two grants. [`start`](crate::start) makes it, and [`grant`](crate::grant) keeps it.
 ///
 /// To be stored it becomes [`RECORD_LENGTH`] numbers, at the positions of [`raw::record`](crate::raw::record), and is made of them
-/// again; a version with another `RECORD_LENGTH` does not take them.
+/// again; a version with another `RECORD_LENGTH` does not take them. `CALLS.md` says how a record from before version 0.3.0 is
+/// carried over.
 ///
 /// ```
 /// use tak::{Parameters, RECORD_LENGTH, Record, Refusal};
@@ -70,6 +71,12 @@ pub struct Record {
     pub granted: u64,
     /// The cycles spent, at most `granted`.
     pub spent: u64,
+    /// The greatest SHR reached since start, `shr` to S - 1; B - 1 at first. A POP does not lower it, and a PUSH that fails does not
+    /// raise it.
+    ///
+    /// S = `deepest + 1`, or 1 if that is 0, is the least S with which the run would have come as far; where a PUSH has failed this is
+    /// S as it is, and the run needs more. `TCL.md` says how to choose S by it.
+    pub deepest: i32,
 }
 
 impl Record {
@@ -97,6 +104,7 @@ impl From<Record> for [i64; RECORD_LENGTH] {
         fields[record::PLACE] = long(from.place as u64);
         fields[record::GRANTED] = long(from.granted);
         fields[record::SPENT] = long(from.spent);
+        fields[record::DEEPEST] = from.deepest.into();
         fields
     }
 }
@@ -124,6 +132,7 @@ impl TryFrom<[i64; RECORD_LENGTH]> for Record {
             place: fields[record::PLACE].try_into().map_err(refused)?,
             granted: fields[record::GRANTED].try_into().map_err(refused)?,
             spent: fields[record::SPENT].try_into().map_err(refused)?,
+            deepest: fields[record::DEEPEST].try_into().map_err(refused)?,
         })
     }
 }
@@ -156,6 +165,7 @@ mod tests {
         place: 8,
         granted: 1_000_000_000_000_000,
         spent: 10,
+        deepest: 3,
     };
 
     #[test]
@@ -163,7 +173,7 @@ mod tests {
         let fields = <[i64; RECORD_LENGTH]>::from(RECORD);
         assert_eq!(
             fields,
-            [9, 3, 5, 0, 7, 6, 2, -1, 8, 1_000_000_000_000_000, 10]
+            [9, 3, 5, 0, 7, 6, 2, -1, 8, 1_000_000_000_000_000, 10, 3]
         );
         assert_eq!(Record::try_from(fields), Ok(RECORD));
     }
@@ -186,6 +196,25 @@ mod tests {
     }
 
     #[test]
+    fn shr_and_deepest_hold_32_bits() {
+        for position in [record::SHR, record::DEEPEST] {
+            let taken = |number: i64| {
+                let mut fields = <[i64; RECORD_LENGTH]>::from(RECORD);
+                fields[position] = number;
+                Record::try_from(fields).map(|record| (fields, record))
+            };
+            let (least, greatest) = (i64::from(i32::MIN), i64::from(i32::MAX));
+            for number in [least, -1, greatest] {
+                let (fields, record) = taken(number).unwrap();
+                assert_eq!(<[i64; RECORD_LENGTH]>::from(record), fields);
+            }
+            for number in [i64::MIN, least - 1, greatest + 1, i64::MAX] {
+                assert_eq!(taken(number), Err(Refusal::Record), "{position}");
+            }
+        }
+    }
+
+    #[test]
     fn numbers_that_are_too_great_stay_too_great() {
         let record = Record {
             place: usize::MAX,
@@ -194,7 +223,7 @@ mod tests {
             ..RECORD
         };
         let fields = <[i64; RECORD_LENGTH]>::from(record);
-        assert_eq!(fields[record::PLACE..], [i64::MAX; 3]);
+        assert_eq!(fields[record::PLACE..record::DEEPEST], [i64::MAX; 3]);
     }
 
     #[test]

@@ -80,7 +80,7 @@ refusals! {
         8 LINE_COUNT LineCount "the text has more than T lines"
         9 MEMORY_LENGTH MemoryLength "the register slice does not have N numbers, or the cell slice does not have S"
         10 IMAGE Image "no text, of whatever length, yields this image with these parameters"
-        15 RECORD Record "a number of the record, a register or a data cell is outside its limits"
+        15 RECORD Record "IAR, IRCR, SHR, place, granted, spent or deepest of the record, a register or a data cell is outside its limits"
         16 INPUT_LENGTH InputLength "the input has more than 65,536 bytes"
         17 CYCLES Cycles "the grant is over 10^9 cycles, or would take all grants together over 10^15"
         18 DECIMAL_LENGTH DecimalLength "fewer than 11 bytes are lent for a decimal"

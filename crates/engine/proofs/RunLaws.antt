@@ -1,16 +1,20 @@
 -- The loop of looks and steps: its invariant, and what a look and a step do to it, over plain values. Assumes nothing.
-use Prim.Native.Nat.{ℕ, ◌+◌, ◌-◌, ◌≤◌}
-use mathlib.Core.Bool.{true}
+use Prim.Native.Nat.{ℕ, max, ◌+◌, ◌-◌, ◌≤◌, ◌<◌}
+use mathlib.Core.Bool.{true, false}
 use mathlib.Core.List.{List, [], ◌++◌, append_assoc, append-nil}
 use mathlib.Core.Path.{◌≡◌, refl, sym, ap, ◌∙◌}
 use native.Mathlib.Nat.{le_refl}
+use native.Mathlib.Decide.{dec_lt}
 use native.Mathlib.Omega.{arith}
-use lib.IntN.{ℤ}
+use lib.IntN.{ℤ, pos, ◌-ℤ◌}
 use lib.ListN.{length, take, drop, length-append, length-drop, take-append-drop, drop_of_length-le}
+use lib.Signed.{le_z}
 use lib.Seq.{length-take-le, drop-drop, take_at, drop_at}
 use borrow.Author.Rules.{part_to_end}
 use borrow.Rule.Slice.PartMut.{put_mid}
 use Rattle.model.proofs.Cells.{cell-fits}
+use Rattle.model.proofs.Fits.{by_cond}
+use Rattle.model.proofs.Stack.{heads}
 use Rattle.model.proofs.Costs.{priced, tak-run}
 use Rattle.model.proofs.Fits.{Sized}
 use Rattle.model.proofs.Keeps.{Sound, is_running, step_keeps}
@@ -18,7 +22,7 @@ use Rattle.model.proofs.Laws.{Goes, going}
 use Rattle.model.specs.Grants.{RunState, Stop, advance, run}
 use Rattle.model.specs.Images.{cell_fits}
 use Rattle.model.specs.Instructions.{row_of}
-use Rattle.model.specs.Machine.{Look, stops, goes, look_at}
+use Rattle.model.specs.Machine.{greater, Look, stops, goes, look_at}
 use Rattle.model.specs.Step.{Environment, Memory, State, Tak, current_cell, step_cost, step_values, step, execute, settled, environment_of}
 use Rattle.model.specs.declared.Ending.{Ending}
 use Rattle.effects.specs.Effects.{output_after}
@@ -29,9 +33,10 @@ use Rattle.std.specs.Prelude.{Result}
 use Rattle.engine.specs.declared.looks.Offer.{Offer}
 use Rattle.operands.specs.Cores.{state_in}
 use Rattle.operands.specs.declared.Core.{Core}
+use Rattle.steps.proofs.Tops.{top-between}
 use Rattle.steps.specs.Steppable.{written, Steppable}
 use Rattle.engine.specs.Programs.{environment_in}
-use Rattle.engine.specs.Runs.{stop_at, RunIs}
+use Rattle.engine.specs.Runs.{Runnable, stop_at, RunIs}
 use Rattle.engine.specs.declared.program.Program.{Program}
 
 -- WHAT WAS FOUND
@@ -46,6 +51,20 @@ module _ (e : Environment) (s : State) where
   found-runs : (v : Look) {o : Offer} → Ok o ≡ found_of e s v → (v ≡ goes) × (o ≡ offered)
   found-runs (stops y) h = (cc, cc)
   found-runs goes h = (refl, cc)
+
+-- THE GREATER of two tops is one more than the greater SHR.
+max-greater : (a b : ℕ) → pos (max a b) -ℤ pos 1 ≡ greater (pos a -ℤ pos 1) (pos b -ℤ pos 1)
+max-greater a b =
+    by_cond (λ z. pos (max a b) -ℤ pos 1 ≡ z) (le_z (pos a -ℤ pos 1) (pos b -ℤ pos 1)) (pos b -ℤ pos 1) (pos a -ℤ pos 1)
+    (λ h. let k : max a b ≡ b = omega (arith, top-between a b h) in rw k)
+    (λ h. let k : max a b ≡ a = max-first a b h in rw k)
+  where
+    max-first : (a b : ℕ) → le_z (pos a -ℤ pos 1) (pos b -ℤ pos 1) ≡ false → max a b ≡ a
+    max-first a b h = go (dec_lt b a)
+      where
+        go : Dec (b < a) → max a b ≡ a
+        go (yes l) = omega arith
+        go (no l) = absurd (let z : ◌≡◌ {A = ℕ} 0 1 = (let t = heads a b (omega arith) in cc) in omega arith)
 
 -- THE SLICE. v behind the first k, and the old rest behind it.
 module _ (out v : List ℤ) (k : ℕ) (within : k ≤ length out) (room : length v ≤ length out - k) where
@@ -77,27 +96,38 @@ pub sound-image : {e : Environment} {s : State} → Sound e s → Sound (environ
 sound-image h = search
 
 -- THE LOOP, from where a run began.
-module _ (e : Environment) (start : Core) (before granted : ℕ) (memory₀ : Memory) (slice₀ : List ℤ) where
-  abbrev run_state : Core → (spent count : ℕ) (memory : Memory) (slice : List ℤ) → RunState State
-  run_state at spent count memory slice = record { state = state_in at memory; spent = spent; written = take count slice }
+module _ (e : Environment) (start : Core) (peak₀ before granted : ℕ) (memory₀ : Memory) (slice₀ : List ℤ) where
+  abbrev run_state : Core → (peak spent count : ℕ) (memory : Memory) (slice : List ℤ) → RunState State
+  run_state at peak spent count memory slice =
+      record { state = state_in at memory; spent = spent; deepest = pos peak -ℤ pos 1; written = take count slice }
 
   -- To go on from here is to go on from the beginning; the slice behind the values written is as it came.
-  pub record RunInvariant (at : Core) (spent count : ℕ) (memory : Memory) (slice : List ℤ) : Type 0 where
-    pub same : stop_at e start before granted memory₀ slice₀ ≡ run (Tak e) granted (length slice₀) (run_state at spent count memory slice)
+  pub record RunInvariant (at : Core) (peak spent count : ℕ) (memory : Memory) (slice : List ℤ) : Type 0 where
+    pub same : stop_at e start peak₀ before granted memory₀ slice₀ ≡ run (Tak e) granted (length slice₀) (run_state at peak spent count memory slice)
     pub rest : drop count slice ≡ drop count slice₀
     pub within : count ≤ length slice
     pub long : length slice ≡ length slice₀
     pub paid : spent ≤ granted
     pub rises : before ≤ spent
     pub sound : Sound e (state_in at memory)
+    pub peak-high : peak ≤ e.parameters.s
 
-  pub begins : before ≤ granted → Sound e (state_in start memory₀) → RunInvariant start before 0 memory₀ slice₀
-  begins p s =
-      record { same = refl; rest = refl; within = omega arith; long = refl; paid = p; rises = le_refl before; sound = s }
+  pub begins : Runnable e start peak₀ before granted memory₀ → RunInvariant start peak₀ before 0 memory₀ slice₀
+  begins h =
+      record {
+        same = refl;
+        rest = refl;
+        within = omega arith;
+        long = refl;
+        paid = h.paid;
+        rises = le_refl before;
+        sound = h.sound;
+        peak-high = h.peak-high;
+      }
 
-module _ (h : Program) {start : Core} {before granted : ℕ} {memory₀ : Memory} {slice₀ : List ℤ}
-    {at : Core} {spent count : ℕ} {memory : Memory} {slice : List ℤ}
-    (g : RunInvariant (environment_in h) start before granted memory₀ slice₀ at spent count memory slice) where
+module _ (h : Program) {start : Core} {peak₀ before granted : ℕ} {memory₀ : Memory} {slice₀ : List ℤ}
+    {at : Core} {peak spent count : ℕ} {memory : Memory} {slice : List ℤ}
+    (g : RunInvariant (environment_in h) start peak₀ before granted memory₀ slice₀ at peak spent count memory slice) where
   abbrev e : Environment
   e = environment_in h
 
@@ -117,30 +147,32 @@ module _ (h : Program) {start : Core} {before granted : ℕ} {memory₀ : Memory
   abbrev seen : Look
   seen = look_at (Tak e) s (granted - spent) (length slice - count)
 
-  next-run : run (Tak e) granted (length slice₀) (run_state e start before granted memory₀ slice₀ at spent count memory slice)
-      ≡ elim seen [
-        | stops x ↦ record { ending = x; at = run_state e start before granted memory₀ slice₀ at spent count memory slice }
-        | goes ↦ run (Tak e) granted (length slice₀) (advance (Tak e) (run_state e start before granted memory₀ slice₀ at spent count memory slice))
-      ]
+  abbrev here : RunState State
+  here = run_state e start peak₀ before granted memory₀ slice₀ at peak spent count memory slice
+
+  next-run : run (Tak e) granted (length slice₀) here
+      ≡ elim seen [ stops x ↦ record { ending = x; at = here } | goes ↦ run (Tak e) granted (length slice₀) (advance (Tak e) here) ]
   next-run =
-      tak-run e h.limits.fit granted (length slice₀) (run_state e start before granted memory₀ slice₀ at spent count memory slice)
+      tak-run e h.limits.fit granted (length slice₀) here
       ∙ rw (length-take-le count slice g.within, g.long)
 
   -- A look that stops: all is as `run` of model says.
   pub stopped : {x : Ending} → Err x ≡ found →
-      RunIs e start before granted memory₀ slice₀ (record { ending = x; core = at; spent = spent; count = count }) memory slice
+      RunIs e start peak₀ before granted memory₀ slice₀ (record { ending = x; core = at; peak = peak; spent = spent; count = count }) memory slice
   stopped {x} f =
       record {
         ending = ap (λ (t : Stop State). t.ending) is;
         state = ap (λ (t : Stop State). t.at.state) is;
         spent = ap (λ (t : Stop State). t.at.spent) is;
+        deepest = ap (λ (t : Stop State). t.at.deepest) is;
         count = sym n ∙ ap (λ (t : Stop State). length t.at.written) is;
         slice = whole ∙ ap (λ (t : Stop State). t.at.written ++ drop (length t.at.written) slice₀) is;
         sound = g.sound;
         rises = g.rises;
+        peak-high = g.peak-high;
       }
     where
-      is : record { ending = x; at = run_state e start before granted memory₀ slice₀ at spent count memory slice } ≡ stop_at e start before granted memory₀ slice₀
+      is : record { ending = x; at = here } ≡ stop_at e start peak₀ before granted memory₀ slice₀
       is = sym (g.same ∙ next-run ∙ rw (found-stops e s seen f))
 
       n : length (take count slice) ≡ count
@@ -189,10 +221,11 @@ module _ (h : Program) {start : Core} {before granted : ℕ} {memory₀ : Memory
           room_for = rw (part_length, values-are) goes-from.room_for;
         }
 
-    module _ (next : Core) {memory' : Memory} {part slice' : List ℤ}
+    module _ (next : Core) {peak' : ℕ} {memory' : Memory} {part slice' : List ℤ}
         (stepped : state_in next memory' ≡ settled s (execute e (row_of o.instruction.number).operation (cell_from o.instruction) s))
         (output : part ≡ output_after (written o.instruction at memory) (take (length slice - count) (drop count slice)))
-        (came-back : slice' ≡ put_mid count (length slice - count) slice part) where
+        (came-back : slice' ≡ put_mid count (length slice - count) slice part)
+        (is-peak : peak' ≡ max peak next.top) where
       is-step : state_in next memory' ≡ step e s
       unfolding step
       is-step = stepped ∙ rw is-offered
@@ -206,16 +239,24 @@ module _ (h : Program) {start : Core} {before granted : ℕ} {memory₀ : Memory
       is-wrote : slice' ≡ take count slice ++ output_after v (drop count slice)
       is-wrote = came-back ∙ put-end count slice part ∙ ap (λ (l : List ℤ). take count slice ++ l) (output ∙ rw (values-are, part_to_end))
 
-      pub goes_on : RunInvariant e start before granted memory₀ slice₀ next (spent + o.cost) (count + o.values) memory' slice'
+      next-sound : Sound e (state_in next memory')
+      next-sound = rw is-step (step_keeps e h.limits.fit h.fits s g.sound goes-from.run)
+
+      -- The deepest SHR, by that of the step's state.
+      is-deepest : pos peak' -ℤ pos 1 ≡ greater (pos peak -ℤ pos 1) (step e s).shr
+      is-deepest = ap (λ (n : ℕ). pos n -ℤ pos 1) is-peak ∙ max-greater peak next.top ∙ ap (λ (t : State). greater (pos peak -ℤ pos 1) t.shr) is-step
+
+      pub goes_on : RunInvariant e start peak₀ before granted memory₀ slice₀ next peak' (spent + o.cost) (count + o.values) memory' slice'
       unfolding advance
       goes_on =
           rw (is-offered, is-wrote)
           (record {
-            same = g.same ∙ next-run ∙ rw went (rw (is-step, take-wrote slice v count g.within room));
+            same = g.same ∙ next-run ∙ rw went (rw (is-deepest, is-step, take-wrote slice v count g.within room));
             rest = drop-wrote slice v count g.within room ∙ rw (g.rest, drop-drop);
             within = rw (length-wrote slice v count g.within room) (omega (arith, g.within, room));
             long = length-wrote slice v count g.within room ∙ g.long;
             paid = omega (arith, g.paid, goes-from.paid);
             rises = omega (arith, g.rises);
-            sound = rw is-step (step_keeps e h.limits.fit h.fits s g.sound goes-from.run);
+            sound = next-sound;
+            peak-high = omega (arith, is-peak, g.peak-high, top-between next.top e.parameters.s next-sound.high);
           })

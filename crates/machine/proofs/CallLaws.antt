@@ -1,14 +1,14 @@
 -- What start and grant hand back, by their checks and by the run. Assumes nothing.
-use Prim.Native.Nat.{ℕ, ◌+◌, ◌-◌}
+use Prim.Native.Nat.{ℕ, ◌+◌, ◌-◌, ◌≤◌}
 use mathlib.Core.Bool.{cond}
 use mathlib.Core.List.{List, []}
 use mathlib.Core.Path.{◌≡◌, sym, ap, ◌∙◌}
 use native.Mathlib.Omega.{arith}
 use lib.Dec.{eqb}
-use lib.IntN.{ℤ, pos}
+use lib.IntN.{ℤ, pos, ◌-ℤ◌}
 use lib.ListN.{length, replicate}
 use Rattle.model.proofs.Endings.{grant-word}
-use Rattle.model.proofs.Fits.{start-accepted, GrantFits, grant-accepted}
+use Rattle.model.proofs.Fits.{start-accepted, GrantFits, grant-accepted, limits}
 use Rattle.model.proofs.GrantKeeps.{AccountSound, record-sound, started-accepted}
 use Rattle.model.proofs.Lists as lists
 use Rattle.model.proofs.Refusals.{grant-number}
@@ -28,6 +28,7 @@ use Rattle.engine.specs.declared.Ran.{Ran}
 use Rattle.operands.specs.Cores.{state_in}
 use Rattle.operands.specs.declared.Core.{Core}
 use Rattle.machine.specs.CallContracts.{StartIs, GrantIs}
+use Rattle.machine.specs.Cores.{HeadsFit}
 
 -- START
 module _ (e : Environment) (m : Memory) where
@@ -72,8 +73,18 @@ module _ (lent : Environment) (held : Held) (c : Call) where
     pub fits : GrantFits e account c
     fits = grant-accepted e account c (sym passed)
 
-    pub sound : AccountSound e account
+    sound : AccountSound e account
     sound = record-sound e account fits.record-fits fits.start.sized
+
+    pub heads-fit : HeadsFit held.rec
+    heads-fit =
+        record {
+          low = sound.state.low;
+          high = sound.state.high;
+          above = sound.low;
+          deepest-high = sound.high;
+          cells = (limits e.parameters fits.start.fit).s-high;
+        }
 
     -- The cycles before the run, and those granted with it.
     abbrev before : ℕ
@@ -82,20 +93,20 @@ module _ (lent : Environment) (held : Held) (c : Call) where
     abbrev total : ℕ
     total = held.rec.granted + c.cycles
 
-    module _ (start : Core) (at-start : state_in start held.memory ≡ account.state) where
-      pub runnable : Runnable e start before total held.memory
-      runnable = record { sound = rw at-start sound.state; paid = omega (arith, sound.spent) }
+    module _ (start : Core) (peak : ℕ) (at-start : state_in start held.memory ≡ account.state) (is-peak : pos peak -ℤ pos 1 ≡ held.rec.deepest) where
+      pub runnable : peak ≤ e.parameters.s → Runnable e start peak before total held.memory
+      runnable h = record { sound = rw at-start sound.state; paid = omega (arith, sound.spent); peak-high = h }
 
       -- Where the run stops is what the definition hands back.
-      handed-back : granted_by e.parameters (hand_back account c (stop_at e start before total held.memory c.slice)) ≡ granted lent held c
+      handed-back : granted_by e.parameters (hand_back account c (stop_at e start peak before total held.memory c.slice)) ≡ granted lent held c
       unfolding granted accept
-      handed-back = rw (lists.grant-accepted (Tak e) (grant_refusal e) account c (sym passed), at-start)
+      handed-back = rw (lists.grant-accepted (Tak e) (grant_refusal e) account c (sym passed), at-start, is-peak)
 
-      module _ {r : Ran} {memory' : Memory} {out' : List ℤ} (ran : RunIs e start before total held.memory c.slice r memory' out') where
-        abbrev record_at : State → (spent : ℕ) → Record
-        record_at s spent = record_of e.parameters (record { state = s; granted = total; spent = spent })
+      module _ {r : Ran} {memory' : Memory} {out' : List ℤ} (ran : RunIs e start peak before total held.memory c.slice r memory' out') where
+        abbrev record_at : State → (spent : ℕ) → (deepest : ℤ) → Record
+        record_at s spent deepest = record_of e.parameters (record { state = s; granted = total; spent = spent; deepest = deepest })
 
-        pub grant-accepts : {rec' : Record} → rec' ≡ record_at (state_in r.core memory') r.spent →
+        pub grant-accepts : {rec' : Record} → rec' ≡ record_at (state_in r.core memory') r.spent (pos r.peak -ℤ pos 1) →
             GrantIs lent held c
             (record {
               reply = record { outcome = Stopped r.ending; rec = rec'; values = r.count; cycles = r.spent - before };
@@ -108,19 +119,19 @@ module _ (lent : Environment) (held : Held) (c : Call) where
             same : record {
               reply = record {
                 outcome = Stopped r.ending;
-                rec = record_at (state_in r.core memory') r.spent;
+                rec = record_at (state_in r.core memory') r.spent (pos r.peak -ℤ pos 1);
                 values = r.count;
                 cycles = r.spent - before;
               };
               memory = memory';
               slice = out';
             }
-                ≡ granted_by e.parameters (hand_back account c (stop_at e start before total held.memory c.slice))
+                ≡ granted_by e.parameters (hand_back account c (stop_at e start peak before total held.memory c.slice))
             same i =
                 record {
                   reply = record {
                     outcome = Stopped (ran.ending i);
-                    rec = record_at (ran.state i) (ran.spent i);
+                    rec = record_at (ran.state i) (ran.spent i) (ran.deepest i);
                     values = ran.count i;
                     cycles = ran.spent i - before;
                   };

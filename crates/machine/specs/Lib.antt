@@ -1,4 +1,5 @@
 pub mod Checks
+pub mod Cores
 pub mod CallContracts
 pub mod Chains
 pub mod Refusal10

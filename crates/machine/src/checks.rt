@@ -5,7 +5,7 @@ ghost use Rattle.model.specs.Calls.{as_held, as_call, shape_checks, memory_fits,
 ghost use Rattle.model.specs.Replies.{refusal_number};
 ghost use Rattle.bounds.specs.Bounds.{IsLimit};
 ghost use Rattle.model.specs.Step.{as_memory, environment_of};
-ghost use Rattle.machine.specs.Checks.{head_fits, core_fits, account_fits, fields_fit, cycles_fit};
+ghost use Rattle.machine.specs.Checks.{head_fits, deepest_fits, core_fits, account_fits, reached_fits, fields_fit, cycles_fit};
 
 use bounds::limits::{check_parameters, limit_of};
 use bounds::ranges::in_range;
@@ -82,11 +82,25 @@ fn account_fits(rec: Record) -> bool
     rec.spent <= rec.granted && rec.granted <= Record::MAX_GRANTED
 }
 
+// The deepest SHR is SHR..S-1, tested in 64 bits.
+fn deepest_fits(s: u32, shr: i64, deepest: i64) -> bool
+    ensures { result ≡ deepest_fits s shr deepest }
+{
+    (shr..i64::from(s)).contains(&deepest)
+}
+
+// The place is in the input or behind it, and the deepest SHR in its bounds.
+fn reached_fits(rec: Record, input: usize) -> bool
+    ensures { result ≡ reached_fits rec input }
+{
+    rec.place <= input && deepest_fits(rec.parameters.s, rec.shr, rec.deepest)
+}
+
 // The numbers of a record, with an input of this length.
 fn fields_fit(rec: Record, input: usize) -> bool
     ensures { result ≡ fields_fit rec input }
 {
-    core_fits(rec) && account_fits(rec) && rec.place <= input
+    core_fits(rec) && account_fits(rec) && reached_fits(rec, input)
 }
 
 // Registers and data cells are in -M..M-1.

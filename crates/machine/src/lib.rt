@@ -11,6 +11,7 @@ ghost use Rattle.model.specs.Parameters.{max_cells, max_instructions};
 ghost use Rattle.model.specs.Step.{Memory, as_memory, environment_of};
 ghost use Rattle.operands.specs.Cores.{state_in};
 ghost use Rattle.machine.specs.CallContracts.{StartIs, GrantIs};
+ghost use Rattle.machine.specs.Cores.{HeadsFit};
 
 use crate::checks::{check_grant, check_start};
 use bounds::limits::Limits;
@@ -36,32 +37,57 @@ pub fn start(
     Ok(Record::fresh(p))
 }
 
+// `top` of an SHR that fits: raised by one, so that it is never negative.
+fn top_of(p: Parameters, shr: i64) -> usize
+    requires { (le_z (pos p.b -ℤ pos 1) shr ≡ true) × (le_z shr (pos p.s -ℤ pos 1) ≡ true) × (p.s ≤ max_cells) }
+    ensures { (pos result -ℤ pos 1 ≡ shr) × (result ≤ p.s) }
+{
+    (shr + 1) as usize
+}
+
+// SHR of a `top`.
+fn shr_of(top: usize) -> i64
+    requires { top ≤ max_cells }
+    ensures { result ≡ pos top -ℤ pos 1 }
+{
+    (top as i64) - 1
+}
+
 // Where the machine of a record stands. No `From`: it asks that SHR and the data cells' count are within their bounds, and a `from` can ask nothing.
 fn core_of(rec: Record) -> Core
-    requires { (le_z (pos rec.parameters.b -ℤ pos 1) rec.shr ≡ true) × (le_z rec.shr (pos rec.parameters.s -ℤ pos 1) ≡ true) × (rec.parameters.s ≤ max_cells) }
+    requires { HeadsFit rec }
     ensures { (m : Memory) → state_in result m ≡ (account_of (record { rec = rec; memory = m })).state }
 {
     Core {
         iar: rec.iar as usize,
         ircr: rec.ircr,
-        top: (rec.shr + 1) as usize,
+        top: top_of(rec.parameters, rec.shr),
         place: rec.place,
     }
 }
 
-// The record of where it stands. No `From` for the same reason: it asks the bounds of IAR and SHR.
-fn record_of(p: Parameters, at: Core, granted: u64, spent: u64) -> Record
-    requires { (at.iar ≤ max_instructions) × (at.top ≤ max_cells) }
-    ensures { (m : Memory) → result ≡ record_of p (record { state = state_in at m; granted = granted; spent = spent }) }
+// The greatest `top` of a record: its deepest SHR raised by one.
+fn peak_of(rec: Record) -> usize
+    requires { HeadsFit rec }
+    ensures { (pos result -ℤ pos 1 ≡ rec.deepest) × (result ≤ rec.parameters.s) }
+{
+    top_of(rec.parameters, rec.deepest)
+}
+
+// The record of where it stands, with its greatest `top`. No `From` for the same reason: it asks the bounds of IAR and SHR.
+fn record_of(p: Parameters, at: Core, peak: usize, granted: u64, spent: u64) -> Record
+    requires { (at.iar ≤ max_instructions) × (at.top ≤ max_cells) × (peak ≤ max_cells) }
+    ensures { (m : Memory) → result ≡ record_of p (record { state = state_in at m; granted = granted; spent = spent; deepest = pos peak -ℤ pos 1 }) }
 {
     Record {
         parameters: p,
         iar: at.iar as u32,
         ircr: at.ircr,
-        shr: (at.top as i64) - 1,
+        shr: shr_of(at.top),
         place: at.place,
         granted,
         spent,
+        deepest: shr_of(peak),
     }
 }
 
@@ -90,6 +116,7 @@ pub fn grant(
     let ran = run(
         &program,
         core_of(rec),
+        peak_of(rec),
         rec.spent,
         granted,
         registers,
@@ -98,7 +125,7 @@ pub fn grant(
     );
     Ok(AcceptedGrant {
         ending: ran.ending,
-        rec: record_of(rec.parameters, ran.core, granted, ran.spent),
+        rec: record_of(rec.parameters, ran.core, ran.peak, granted, ran.spent),
         values: ran.count,
         cycles: ran.spent - rec.spent,
     })

@@ -13,6 +13,7 @@ use Rattle.model.specs.Calls.{Held, held_after_start, start_checks, started, Gra
 use Rattle.model.specs.Demand.{all_granted, held_after_all, reply_of, joined_outputs, IsAfter, Demand3}
 use Rattle.model.proofs.Fits.{start-accepted}
 use Rattle.model.proofs.Costs.{priced}
+use Rattle.model.proofs.Deepest.{run-greatest}
 use Rattle.model.proofs.GrantKeeps.{started-accepted}
 use Rattle.model.proofs.Lists.{start, results, final, joined, replies}
 use Rattle.model.proofs.Lists as lists
@@ -82,6 +83,7 @@ module _ (e : Environment) where
           replies = rw replied-is d.trace;
           replies-only = λ rs n g w. d.replies-only rs n g w ∙ sym replied-is;
           largest = rw replied-is d.largest;
+          deepest = rw (held, d.deepest) (run-greatest M d.m);
           granted-sum = rw (held, replied-is) d.granted;
           parameters = rw held;
         }

@@ -10,7 +10,7 @@ use lib.ListN.{length}
 use borrow.Author.Tests.{ltb-false}
 use Rattle.model.specs.declared.Ending.{Ending}
 use Rattle.model.specs.declared.Ending.TheVariants.{OutputFull}
-use Rattle.model.specs.Machine.{Machine, Status, running, stops, goes, look, look_at, after, gathered, costs, Reaches, Largest, Priced}
+use Rattle.model.specs.Machine.{Machine, Status, running, stops, goes, look, look_at, later, over, after, costs_from, costs, ReachesFrom, Reaches, Largest, Priced}
 use Rattle.std.proofs.Common.{rules}
 
 -- What `look` says, read backwards.
@@ -46,13 +46,13 @@ module _ (M : Machine) where
       let (run, paid, fits) = look-goes (status s) _ _ h in
       record { run = run; paid = ltb-false allowance (cost s) paid; room_for = ltb-false room (length (values s)) fits }
 
-  -- The cost sum never falls.
-  pub costs_le : (m n : ℕ) → m ≤ n → costs M m ≤ costs M n
-  unfolding gathered
-  costs_le m zero h = let e : m ≡ 0 = omega arith in rw e (le_refl _)
-  costs_le m (suc n) h = go (eq-or-lt_of_le h) (costs_le m n)
+  -- The cost sum from a state never falls.
+  pub costs_le : (s : St) (m n : ℕ) → m ≤ n → costs_from M s m ≤ costs_from M s n
+  unfolding over
+  costs_le s m zero h = let e : m ≡ 0 = omega arith in rw e (le_refl _)
+  costs_le s m (suc n) h = go (eq-or-lt_of_le h) (costs_le s m n)
     where
-      go : (m ≡ suc n) ⊎ (m < suc n) → (m ≤ n → costs M m ≤ costs M n) → costs M m ≤ costs M (suc n)
+      go : (m ≡ suc n) ⊎ (m < suc n) → (m ≤ n → costs_from M s m ≤ costs_from M s n) → costs_from M s m ≤ costs_from M s (suc n)
       go (inl e) ih = rw e (le_refl _)
       go (inr l) ih = omega (arith, ih (omega arith))
 
@@ -61,30 +61,30 @@ module _ (M : Machine) where
 
   -- Where the run is over, or the next step is too dear, m is the largest.
   pub largest : (m total : ℕ) → Reaches M m → costs M m ≤ total → (status (after M m) ≡ running → total - costs M m < cost (after M m)) → Largest M m total
-  unfolding gathered
+  unfolding over
   largest m total r f stop = record { reaches = r; fits = f; most = λ n rn fn. go n rn fn (dec_lt m n) }
     where
       go : (n : ℕ) → Reaches M n → costs M n ≤ total → Dec (m < n) → n ≤ m
       go n rn fn (no k) = omega arith
-      go n rn fn (yes k) = absurd (omega (arith, costs_le (suc m) n k, stop (rn m k)))
+      go n rn fn (yes k) = absurd (omega (arith, costs_le fresh (suc m) n k, stop (rn m k)))
 
   module _ (priced : Priced M) where
-    -- The cost sum rises with each instruction of the run.
-    pub costs_lt : (m n : ℕ) → Reaches M n → m < n → costs M m < costs M n
-    unfolding gathered
-    costs_lt m zero r h = absurd (omega arith)
-    costs_lt m (suc n) r h = omega (arith, costs_le m n (omega arith), priced (after M n) (r n (omega arith)))
+    -- It rises with each step that runs.
+    pub costs_lt : (s : St) (m n : ℕ) → ReachesFrom M s n → m < n → costs_from M s m < costs_from M s n
+    unfolding over
+    costs_lt s m zero r h = absurd (omega arith)
+    costs_lt s m (suc n) r h = omega (arith, costs_le s m n (omega arith), priced (later M n s) (r n (omega arith)))
 
-    -- So it tells the number of instructions.
-    pub costs_inj : (m n : ℕ) → Reaches M m → Reaches M n → costs M m ≡ costs M n → m ≡ n
-    costs_inj m n rm rn h = go (dec_lt m n) (dec_lt n m)
+    -- So it tells the number of steps.
+    pub costs_inj : (s : St) (m n : ℕ) → ReachesFrom M s m → ReachesFrom M s n → costs_from M s m ≡ costs_from M s n → m ≡ n
+    costs_inj s m n rm rn h = go (dec_lt m n) (dec_lt n m)
       where
         go : Dec (m < n) → Dec (n < m) → m ≡ n
-        go (yes a) d = absurd (omega (arith, costs_lt m n rn a))
-        go (no a) (yes b) = absurd (omega (arith, costs_lt n m rm b))
+        go (yes a) d = absurd (omega (arith, costs_lt s m n rn a))
+        go (no a) (yes b) = absurd (omega (arith, costs_lt s n m rm b))
         go (no a) (no b) = omega arith
 
     -- Nothing pays for nothing.
     pub largest-none : Largest M 0 0
-    unfolding gathered
+    unfolding over
     largest-none = search rules

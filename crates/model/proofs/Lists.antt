@@ -9,7 +9,7 @@ use lib.IntN.{ℤ}
 use lib.ListN.{take}
 use Rattle.model.specs.declared.Ending.{Ending}
 use Rattle.model.specs.declared.Ending.TheVariants.{OutputFull}
-use Rattle.model.specs.Machine.{Machine, after, gathered, outputs, costs, Reaches, Largest, Priced}
+use Rattle.model.specs.Machine.{Machine, later, over, after, outputs, costs, deepest_after, Reaches, Largest, Priced}
 use Rattle.model.specs.Grants.{Account, Call, Result, Reply, last_ending, account_at, total, accept, refuse, grant, Trace, nothing, refuses, accepts}
 use Rattle.model.proofs.Laws.{costs_inj, largest-none}
 use Rattle.model.proofs.One.{Accepted, accept-runs, runs-only}
@@ -26,11 +26,11 @@ module _ {St : Type 0} where
   joined (x ∷ xs) = take x.reply.count x.slice ++ joined xs
 
 module _ (M : Machine) where
-  open M use {St, fresh}
+  open M use {St, fresh, shr}
 
-  -- "the state that start makes", with nothing granted or spent
+  -- "the state that start makes", with nothing granted or spent, and its own SHR the deepest
   unfoldable pub start : Account St
-  start = record { state = fresh; granted = 0; spent = 0 }
+  start = record { state = fresh; granted = 0; spent = 0; deepest = shr fresh }
 
   module _ (refusal : Account St → Call → ℕ) where
     -- A list of grants: each gets the account that the one before it left.
@@ -44,7 +44,7 @@ module _ (M : Machine) where
     final a (c ∷ cs) = final (grant M refusal a c).account cs
 
 module _ (M : Machine) where
-  open M use {St}
+  open M use {St, fresh}
 
   -- The record and the joined outputs are the machine's after its first m instructions, and the count is the sum of their costs.
   pub record Stands (m : ℕ) (a : Account St) (out : List ℤ) : Type 0 where
@@ -69,6 +69,8 @@ module _ (M : Machine) where
       -- the replies are those that are worked out, and no others are
       pub trace : Trace M refusal 0 0 calls (replies (gave calls)) m (total calls (replies (gave calls)))
       pub replies-only : (rs : List Reply) (n g : ℕ) → Trace M refusal 0 0 calls rs n g → rs ≡ replies (gave calls)
+      -- the deepest SHR is that of the first m instructions
+      pub deepest : (left calls).deepest ≡ deepest_after M m
       -- the record's granted is that of the accepted grants together
       pub granted : (left calls).granted ≡ total calls (replies (gave calls))
       -- with no accepted grant, or where the last one did not stop for a full output, m is the largest that the accepted grants pay for
@@ -148,20 +150,21 @@ module _ (M : Machine) where
         (cc, u, v)
 
     conclude : Priced M → (calls : List Call) → From 0 0 none calls (left calls) (gave calls) → Demand3 calls
-    unfolding gathered
+    unfolding over
     conclude priced calls t =
         let sum : t.g' ≡ total calls (replies (gave calls)) = omega arith in
         record {
           m = t.n;
           stands = record { reaches = t.reaches; state = rw t.account; outs = sym t.outs; count = rw t.account };
-          only = λ n s. costs_inj M priced n t.n s.reaches t.reaches (sym s.count ∙ rw t.account);
+          only = λ n s. costs_inj M priced fresh n t.n s.reaches t.reaches (sym s.count ∙ rw t.account);
           trace = rw sum at t.trace;
           replies-only = λ rs n g w. (trace-only calls 0 0 _ _ _ _ _ _ w t.trace).0;
+          deepest = rw t.account;
           granted = rw t.account sum;
           largest = rw sum at t.largest;
         }
 
     -- DEMAND 3 holds of every list.
     pub demand3 : Priced M → (calls : List Call) → Demand3 calls
-    unfolding start gathered after
+    unfolding start over later
     demand3 priced calls = conclude priced calls (from priced calls 0 0 none (λ i l. absurd (omega arith)) (le_refl 0) λ d. largest-none M priced)

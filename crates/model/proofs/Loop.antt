@@ -1,15 +1,16 @@
 -- The grant loop, from wherever a grant stands: what its steps keep, and that its fuel suffices. Assumes nothing.
 use Prim.Native.Nat.{ℕ, zero, suc, ◌+◌, ◌-◌, ◌<◌}
 use mathlib.Core.Path.{◌≡◌, refl, sym, ◌∙◌}
+use mathlib.Core.Logic.{◌⊎◌, inl, inr}
 use native.Mathlib.Omega.{arith}
-use native.Mathlib.Nat.{le_refl}
+use native.Mathlib.Nat.{le_refl, eq-or-lt_of_le, le_of_suc-le-suc}
 use Rattle.model.specs.declared.Ending.{Ending}
-use Rattle.model.specs.Machine.{Machine, Look, stops, goes, Priced}
+use Rattle.model.specs.Machine.{Machine, running, Look, stops, goes, later, over, costs_from, deepest_fold, ReachesFrom, Priced}
 use Rattle.model.specs.Grants.{RunState, Stop, advance, look_from, loop, run}
 use Rattle.model.proofs.Laws.{going}
 
 module _ (M : Machine) (granted room : ℕ) where
-  open M use {St}
+  open M use {St, status}
 
   -- The two equations of the loop.
   loop-stops : (n : ℕ) (a : RunState St) (e : Ending) → look_from M granted room a ≡ stops e → loop M granted room (suc n) a ≡ record { ending = e; at = a }
@@ -34,6 +35,34 @@ module _ (M : Machine) (granted room : ℕ) where
     pub run_keeps : (a : RunState St) → Q a → Q (run M granted room a).at
     unfolding run
     run_keeps a q = loop_keeps (suc (granted - a.spent)) a q
+
+  -- From wherever it began: the loop takes a number of steps, each from a state that runs, and gathers their costs and the greatest SHR.
+  module _ (b : RunState St) where
+    pub record Went (a : RunState St) : Type 0 where
+      pub steps : ℕ
+      pub reaches : ReachesFrom M b.state steps
+      pub state : a.state ≡ later M steps b.state
+      pub spent : a.spent ≡ b.spent + costs_from M b.state steps
+      pub deepest : a.deepest ≡ over M (deepest_fold M) steps b.state b.deepest
+
+    goes_further : (a : RunState St) → Went a → look_from M granted room a ≡ goes → Went (advance M a)
+    unfolding advance later over
+    goes_further a w h =
+        record {
+          steps = suc w.steps;
+          reaches = λ i l. split i (eq-or-lt_of_le (le_of_suc-le-suc l));
+          state = rw w.state;
+          spent = rw w.state (omega (arith, w.spent));
+          deepest = rw (w.state, w.deepest);
+        }
+      where
+        split : (i : ℕ) → (i ≡ w.steps) ⊎ (i < w.steps) → status (later M i b.state) ≡ running
+        split i (inl e) = rw (e, ← w.state) (going M a.state _ _ h).run
+        split i (inr l) = w.reaches i l
+
+    pub run-went : Went (run M granted room b).at
+    unfolding later over
+    run-went = run_keeps Went goes_further b (record { steps = 0; reaches = λ i l. absurd (omega arith); state = refl; spent = omega arith; deepest = refl })
 
 module _ (M : Machine) (priced : Priced M) (granted room : ℕ) where
   open M use {St, cost}

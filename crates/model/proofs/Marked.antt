@@ -6,6 +6,7 @@ use mathlib.Core.List.{List, [], ◌∷◌, ◌++◌, map}
 use lib.IntN.{ℤ, pos, negsuc}
 use lib.ListN.{length, take, replicate}
 use Rattle.model.specs.declared.Parameters.{Parameters}
+use Rattle.model.specs.declared.Record.{Record}
 use Rattle.model.specs.declared.Ending.{Ending}
 use Rattle.model.specs.declared.Ending.TheVariants.{Failed, Ended, Paused, OutputFull}
 use Rattle.model.specs.Grants.{Outcome}
@@ -22,7 +23,7 @@ use Rattle.model.specs.Images.{word_fits, words_fit, cell_fits, all_zero, cells_
 use Rattle.model.specs.Machine.{look, look_at}
 use Rattle.model.specs.Grants.{Call, hand_back, refuse, advance, loop, run, accept, grant}
 use Rattle.model.specs.Step.{Environment, environment_of, fresh_state, register_value, value_of, store, jump_to, push, pop, blanks_of, token_of, input, execute, state_status, step_cost, step_values, step}
-use Rattle.model.specs.Calls.{Held, held_after_start, Granted, granted, fresh_memory, started, start_checks, record_fits, grant_checks, grant_refusal, ending_word}
+use Rattle.model.specs.Calls.{Held, held_after_start, Granted, granted, fresh_memory, started, start_checks, record_fits, grant_checks, grant_refusal, outcome_number, ending_word}
 use Rattle.model.specs.Lines.{value_lines}
 use Rattle.model.specs.Settings.{fields_from, setting, all_settings}
 use Rattle.model.specs.Program.{grant_lines, printed}
@@ -86,6 +87,18 @@ registers text = (left text).memory.registers
 
 stack : String → List ℤ
 stack text = (left text).rec.shr ∷ (left text).memory.cells
+
+-- SHR and the deepest SHR after it.
+depths : String → List ℤ
+depths text = (left text).rec.shr ∷ (left text).rec.deepest ∷ []
+
+-- A grant of 0 on the fresh record with another deepest SHR: its number, if it is refused, and the deepest SHR handed back.
+figured : ℤ → List ℤ
+figured z =
+    let e = lent (image_of p []) in
+    let r : Record = record { parameters = p; iar = 0; ircr = 0; shr = pos 1; place = 0; granted = 0; spent = 0; deepest = z } in
+    let x = granted e (record { rec = r; memory = fresh_memory p }) (record { cycles = 0; slice = [] }) in
+    pos (outcome_number x.reply.outcome) ∷ x.reply.rec.deepest ∷ []
 
 -- The number of a start with this image.
 starts : List ℕ → List ℕ
@@ -180,11 +193,19 @@ decisions =
     ∷ values (registers "SET R0 -13\nSET R1 -10\nDIV R0 R1 R1") (negsuc 12 ∷ pos 1 ∷ [])
     ∷ words (ends "OUT IAR\nMOV IAR R0") (0 ∷ 2 ∷ 53 ∷ [])
     ∷ words (ends "IN R0") (3 ∷ 0 ∷ 51 ∷ [])
+    -- the deepest SHR: at first; after pushes and pops; a failing PUSH does not count; below SHR, at SHR, at S-1, above S-1
+    ∷ values (depths "NOP") (pos 1 ∷ pos 1 ∷ [])
+    ∷ values (depths "PUSH R0\nPUSH R0\nPOP R0\nPOP R0\nPUSH R0") (pos 2 ∷ pos 3 ∷ [])
+    ∷ values (depths "PUSH R0\nPUSH R0\nPUSH R0") (pos 3 ∷ pos 3 ∷ [])
+    ∷ values (figured (pos 0)) (pos 15 ∷ pos 0 ∷ [])
+    ∷ values (figured (pos 1)) (pos 0 ∷ pos 1 ∷ [])
+    ∷ values (figured (pos 3)) (pos 0 ∷ pos 3 ∷ [])
+    ∷ values (figured (pos 4)) (pos 15 ∷ pos 4 ∷ [])
     -- a head that is no instruction's number counts as NOP
     ∷ grants (headed 0) (bytes "NOP" ∷ [] ∷ (1 ∷ 0 ∷ []) ∷ [])
     ∷ grants (headed 55) (bytes "NOP" ∷ [] ∷ (1 ∷ 0 ∷ []) ∷ [])
     ∷ []
 
 pub decided_points : map computed decisions ≡ map said decisions
-unfolding first_cell reply loads calls lent from answers spends prints left ends registers stack computed decisions said starts headed parameter_checks digits_from checked divide remainder negation logic bits_of signed_of bitwise shift_left shift_right shift_right_signed row_of directs cost_of lines_from words_from same_word lookup_from names special_of plain argument allows is_within arguments_from line_cell lines_reply lines_words text_reply image_of load_checks load_reply word_fits words_fit cell_fits all_zero cells_fit look look_at hand_back refuse advance loop run accept grant register_value value_of store jump_to push pop blanks_of token_of input execute state_status step_cost step_values step granted started start_checks record_fits grant_checks grant_refusal all_granted held_after_all joined_outputs
+unfolding first_cell reply loads calls lent from answers spends prints left ends registers stack depths figured computed decisions said starts headed parameter_checks digits_from checked divide remainder negation logic bits_of signed_of bitwise shift_left shift_right shift_right_signed row_of directs cost_of lines_from words_from same_word lookup_from names special_of plain argument allows is_within arguments_from line_cell lines_reply lines_words text_reply image_of load_checks load_reply word_fits words_fit cell_fits all_zero cells_fit look look_at hand_back refuse advance loop run accept grant register_value value_of store jump_to push pop blanks_of token_of input execute state_status step_cost step_values step granted started outcome_number start_checks record_fits grant_checks grant_refusal all_granted held_after_all joined_outputs
 decided_points = refl

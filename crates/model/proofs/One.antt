@@ -11,7 +11,7 @@ use borrow.Author.Tests.{ltb-true}
 use Rattle.model.specs.declared.Ending.{Ending}
 use Rattle.model.specs.declared.Ending.TheVariants.{OutputFull}
 use Rattle.model.specs.Grants.{Stopped}
-use Rattle.model.specs.Machine.{Machine, stops, goes, after, gathered, outputs, costs, look_at, Reaches, Largest, Priced}
+use Rattle.model.specs.Machine.{Machine, stops, goes, later, over, after, outputs, costs, deepest_after, look_at, Reaches, Largest, Priced}
 use Rattle.model.specs.Grants.{Call, Result, RunState, Stop, beginning, advance, look_from, run, hand_back, accept, look_after, Runs, account_at}
 use Rattle.model.proofs.Laws.{going, look-stops, reaches-suc, largest}
 use Rattle.model.proofs.Loop.{run_keeps, run_looks}
@@ -31,6 +31,7 @@ module _ (M : Machine) where
       pub fits : costs M n ≤ granted
       pub state : a.state ≡ after M n
       pub spent : a.spent ≡ costs M n
+      pub deepest : a.deepest ≡ deepest_after M n
       pub written : outputs M n ≡ outputs M m ++ a.written
 
     -- What it sees there is what is worked out.
@@ -39,7 +40,7 @@ module _ (M : Machine) where
     look-after-at a r = grind (arith, common_steps)
 
     advance-reaches : (a : RunState St) → Reached a → look_from M granted room a ≡ goes → Reached (advance M a)
-    unfolding after gathered advance
+    unfolding later over advance
     advance-reaches a r h =
         let g = going M a.state _ _ h in
         record {
@@ -50,6 +51,7 @@ module _ (M : Machine) where
           fits = omega (arith, r.fits, rw (r.state, r.spent) at g.paid);
           state = rw r.state;
           spent = rw (r.state, r.spent);
+          deepest = rw (r.state, r.deepest);
           written = rw (r.written, r.state, append_assoc);
         }
       where
@@ -86,7 +88,7 @@ module _ (M : Machine) where
         e = t.ending;
         runs = record { forward = r.forward; on = r.on; off = off };
         reply = rw (count, r.spent);
-        account = rw (r.state, r.spent);
+        account = rw (r.state, r.spent, r.deepest);
         values = rw take-append_seam r.written;
         reaches = r.reaches;
         fits = r.fits;
@@ -108,6 +110,7 @@ module _ (M : Machine) where
         fits = omega arith;
         state = refl;
         spent = refl;
+        deepest = refl;
         written = sym (append-nil _);
       } in
       hands-back m g c (run M granted room begin)

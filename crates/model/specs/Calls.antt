@@ -59,14 +59,25 @@ abbrev pub held_after : Granted → Held
 held_after x = record { rec = x.reply.rec; memory = x.memory }
 
 -- START
--- "Start makes the fresh record (all 0 but SHR = B-1) with its parameters".
+-- "Start makes the fresh record (all 0 but SHR = B-1) with its parameters"; the deepest SHR is "B-1 at first" (request E1).
 abbrev pub fresh_record : Parameters → Record
-fresh_record p = record { parameters = p; iar = 0; ircr = 0; shr = pos p.b -ℤ pos 1; place = 0; granted = 0; spent = 0 }
+fresh_record p =
+    let head = pos p.b -ℤ pos 1 in
+    record { parameters = p; iar = 0; ircr = 0; shr = head; place = 0; granted = 0; spent = 0; deepest = head }
 
 -- "A refused start hands back a record of zeros".
 abbrev pub zero_record : Record
 zero_record =
-    record { parameters = record { k = 0; n = 0; s = 0; b = 0; t = 0 }; iar = 0; ircr = 0; shr = pos 0; place = 0; granted = 0; spent = 0 }
+    record {
+      parameters = record { k = 0; n = 0; s = 0; b = 0; t = 0 };
+      iar = 0;
+      ircr = 0;
+      shr = pos 0;
+      place = 0;
+      granted = 0;
+      spent = 0;
+      deepest = pos 0;
+    }
 
 -- "1..6": the parameters, and the length of the image slice.
 abbrev pub shape_checks : Parameters → (image : List ℕ) → List Check
@@ -111,7 +122,8 @@ all_in_range m [] = true
 all_in_range m (z ∷ zs) = in_range m z && all_in_range m zs
 
 -- What 15 asks of a record, with an input of this length: not "a record with IAR outside 0..T, IRCR outside 0..3, SHR outside B-1..S-1,
--- spent over granted, granted over 10^15 or the place past the input".
+-- spent over granted, granted over 10^15 or the place past the input". Request E1: "between SHR and S-1 ..; A record where it lies outside these
+-- bounds gets 15."
 abbrev pub record_tests : Parameters → (input : ℕ) → Account State → List Bool
 record_tests p input a =
     leb a.state.iar p.t
@@ -121,6 +133,8 @@ record_tests p input a =
     ∷ leb a.spent a.granted
     ∷ leb a.granted max_granted
     ∷ leb a.state.place input
+    ∷ le_z a.state.shr a.deepest
+    ∷ le_z a.deepest (pos p.s -ℤ pos 1)
     ∷ []
 
 -- What 15 asks of the memory: not "a register or data value outside -M..M-1".
@@ -148,7 +162,7 @@ grant_checks e a c =
 unfoldable pub grant_refusal : Environment → Account State → Call → ℕ
 grant_refusal e a c = refusal_of (grant_checks e a c)
 
--- The machine's state, granted and spent, from the record and the memory.
+-- The machine's state, granted, spent and the deepest SHR, from the record and the memory.
 abbrev pub account_of : Held → Account State
 account_of h =
     let r = h.rec in
@@ -157,6 +171,7 @@ account_of h =
       state = record { iar = r.iar; ircr = r.ircr; shr = r.shr; place = r.place; registers = m.registers; cells = m.cells };
       granted = r.granted;
       spent = r.spent;
+      deepest = r.deepest;
     }
 
 -- the record of an account
@@ -170,6 +185,7 @@ record_of p a =
       place = a.state.place;
       granted = a.granted;
       spent = a.spent;
+      deepest = a.deepest;
     }
 
 -- The record keeps its parameters.

@@ -1,11 +1,12 @@
--- Demand 3: one statement about every list of grants from an accepted start.
-use Rattle.std.specs.Prelude.{ℕ, ◌≡◌, List, [], ◌∷◌, ◌++◌, map, ℤ, take}
+-- Demand 3: one statement about every list of grants from an accepted start; and request E1 of one grant on any record.
+use Rattle.std.specs.Prelude.{ℕ, ◌+◌, ◌≡◌, true, List, [], ◌∷◌, ◌++◌, map, ℤ, pos, ◌-ℤ◌, take}
 use Rattle.std.proofs.Math.Option.{none, some}
+use Rattle.std.specs.Int.Signed.{le_z}
 use Rattle.model.specs.declared.Ending.TheVariants.{OutputFull}
-use Rattle.model.specs.Machine.{after, outputs, costs, Reaches, Largest}
+use Rattle.model.specs.Machine.{Greatest, later, after, outputs, costs_from, costs, figures_from, ReachesFrom, Reaches, Largest}
 use Rattle.model.specs.Grants.{Call, Reply, last_ending, total, Trace}
-use Rattle.model.specs.Step.{Environment, Tak}
-use Rattle.model.specs.Calls.{Held, held_after, Granted, granted, memory_of, grant_refusal}
+use Rattle.model.specs.Step.{Environment, State, Tak}
+use Rattle.model.specs.Calls.{Held, environment_for, held_after, Granted, granted, memory_of, record_fits, grant_refusal, account_of}
 
 -- What each grant of a list gives, by the definition. "Image and input are the same throughout."
 unfoldable pub all_granted : Environment → Held → List Call → List Granted
@@ -56,6 +57,31 @@ module _ (e : Environment) where
       -- "If the list has no accepted grant, or the last accepted one did not stop for a full output, m is the largest number of instructions
       -- in that machine's run whose costs sum to at most the accepted grants together."
       pub largest : ¬ (last_ending none replied ≡ some OutputFull) → Largest (Tak e) m (total calls replied)
+      -- Request E1: "after every list of grants it equals the greatest SHR over the states of the run so far", those after 0 .. m instructions.
+      pub deepest : Greatest (λ i. (after (Tak e) i).shr) m last.rec.deepest
       -- granted in the last record is the accepted grants together, and the parameters are the start's
       pub granted-sum : last.rec.granted ≡ total calls replied
       pub parameters : last.rec.parameters ≡ e.parameters
+
+-- REQUEST E1 of one accepted grant, on any record and memory `h`, with the parameters of the record: x is what it gave.
+module _ (lent : Environment) (h : Held) where
+  abbrev own : Environment
+  own = environment_for lent h
+
+  abbrev begins : State
+  begins = (account_of h).state
+
+  pub record KeepsDeepest (x : Granted) : Type 0 where
+    -- The call's own steps: they run, lead to the record and memory handed back, and cost what was spent. No other number of steps costs that.
+    pub steps : ℕ
+    pub reaches : ReachesFrom (Tak own) begins steps
+    pub state : (account_of (held_after x)).state ≡ later (Tak own) steps begins
+    pub spent : x.reply.rec.spent ≡ h.rec.spent + costs_from (Tak own) begins steps
+    pub only : (n : ℕ) → ReachesFrom (Tak own) begins n → x.reply.rec.spent ≡ h.rec.spent + costs_from (Tak own) begins n → n ≡ steps
+    -- "On any accepted record the new figure is the greatest of the old one and the SHR after each step of the call."
+    pub greatest : Greatest (figures_from (Tak own) h.rec.deepest begins) steps x.reply.rec.deepest
+    -- "Every accepted grant keeps it between SHR and S-1", so that the record, whose parameters stay, passes 15 again.
+    pub low : le_z x.reply.rec.shr x.reply.rec.deepest ≡ true
+    pub high : le_z x.reply.rec.deepest (pos h.rec.parameters.s -ℤ pos 1) ≡ true
+    pub parameters : x.reply.rec.parameters ≡ h.rec.parameters
+    pub passes : record_fits own (account_of (held_after x)) ≡ true

@@ -3,7 +3,7 @@ use Rattle.std.specs.Prelude.{ℕ, zero, suc, ◌+◌, ◌-◌, ◌≤◌, ◌<�
 use Rattle.std.proofs.Math.Option.{Option, some}
 use Rattle.model.specs.declared.Ending.{Ending}
 use Rattle.model.specs.declared.Ending.TheVariants.{Paused}
-use Rattle.model.specs.Machine.{Machine, Look, stops, goes, after, outputs, costs, look_at}
+use Rattle.model.specs.Machine.{Machine, greater, Look, stops, goes, after, outputs, costs, deepest_after, look_at}
 
 -- Document 01's grant brings cycles and an output slice, whose length is its room.
 pub record Call : Type 0 where
@@ -21,11 +21,12 @@ pub record Reply : Type 0 where
   pub count : ℕ
   pub cycles : ℕ
 
--- The record and memory: the machine's state, granted and spent.
+-- The record and memory: the machine's state, granted and spent, and the greatest SHR since start.
 pub record Account (St : Type 0) : Type 0 where
   pub state : St
   pub granted : ℕ
   pub spent : ℕ
+  pub deepest : ℤ
 
 -- What a grant hands back: the reply, the record and memory, and the slice as it then stands.
 pub record Result (St : Type 0) : Type 0 where
@@ -33,10 +34,11 @@ pub record Result (St : Type 0) : Type 0 where
   pub account : Account St
   pub slice : List ℤ
 
--- Where a grant stands: the state, the cycles spent since start, and the values that this grant has written.
+-- Where a grant stands: the state, the cycles spent and the greatest SHR since start, and the values that this grant has written.
 pub record RunState (St : Type 0) : Type 0 where
   pub state : St
   pub spent : ℕ
+  pub deepest : ℤ
   pub written : List ℤ
 
 -- Where it stopped, and how.
@@ -58,11 +60,11 @@ total (c ∷ cs) (r ∷ rs) = elim r.outcome [ Refused n ↦ total cs rs | Stopp
 module _ {St : Type 0} where
   -- Where a grant begins: it has written nothing yet.
   abbrev pub beginning : Account St → RunState St
-  beginning a = record { state = a.state; spent = a.spent; written = [] }
+  beginning a = record { state = a.state; spent = a.spent; deepest = a.deepest; written = [] }
 
   -- The record and memory where a grant stopped.
   abbrev pub account_after : Account St → Call → Stop St → Account St
-  account_after a c t = record { state = t.at.state; granted = a.granted + c.cycles; spent = t.at.spent }
+  account_after a c t = record { state = t.at.state; granted = a.granted + c.cycles; spent = t.at.spent; deepest = t.at.deepest }
 
   -- What an accepted grant hands back, from where it stopped: its values in front, "the rest keeps its contents".
   unfoldable pub hand_back : Account St → Call → Stop St → Result St
@@ -79,11 +81,18 @@ module _ {St : Type 0} where
   refuse n a c = record { reply = record { outcome = Refused n; count = 0; cycles = 0 }; account = a; slice = c.slice }
 
 module _ (M : Machine) where
-  open M use {St, fresh, cost, values, step}
+  open M use {St, fresh, shr, cost, values, step}
 
-  -- "Otherwise the step runs and spent rises by the cost."
+  -- "Otherwise the step runs and spent rises by the cost." Request E1: "the greatest of the old one and the SHR after each step".
   unfoldable pub advance : RunState St → RunState St
-  advance a = record { state = step a.state; spent = a.spent + cost a.state; written = a.written ++ values a.state }
+  advance a =
+      let next = step a.state in
+      record {
+        state = next;
+        spent = a.spent + cost a.state;
+        deepest = greater a.deepest (shr next);
+        written = a.written ++ values a.state;
+      }
 
   -- What a grant finds where it stands.
   abbrev pub look_from : (granted room : ℕ) → RunState St → Look
@@ -111,9 +120,10 @@ module _ (M : Machine) where
   unfoldable pub look_after : (granted room m i : ℕ) → Look
   look_after granted room m i = look_at M (after M i) (granted - costs M i) (room - (length (outputs M i) - length (outputs M m)))
 
-  -- "Grant's checks are taken at the state of demand 3's machine after the steps before it, with granted .. and spent as .."
+  -- "Grant's checks are taken at the state of demand 3's machine after the steps before it, with granted .. and spent as ..", and the deepest SHR
+  -- as the greatest over the states so far (request E1).
   abbrev pub account_at : (m granted : ℕ) → Account St
-  account_at m granted = record { state = after M m; granted = granted; spent = costs M m }
+  account_at m granted = record { state = after M m; granted = granted; spent = costs M m; deepest = deepest_after M m }
 
   -- An accepted grant "looks and steps as above from there until one of the endings holds": from m to n.
   pub record Runs (granted room m n : ℕ) (e : Ending) : Type 0 where

@@ -220,4 +220,13 @@ module _ (e : Environment) where
 
   -- Document 01's "machine of demand 3".
   abbrev pub Tak : Machine
-  Tak = record { St = State; fresh = fresh_state e.parameters; status = state_status; cost = step_cost; values = step_values; step = step }
+  Tak =
+      record {
+        St = State;
+        fresh = fresh_state e.parameters;
+        status = state_status;
+        shr = λ s. s.shr;
+        cost = step_cost;
+        values = step_values;
+        step = step;
+      }

@@ -17,7 +17,7 @@ pub struct Parameters {
     pub t: u32,
 }
 
-// The record: SHR is B-1 where the stack is empty, so that it is signed; `place` is the input place.
+// The record: SHR is B-1 where the stack is empty, so that it is signed; `place` is the input place; `deepest` is the greatest SHR reached since start.
 #[derive(Clone, Copy, Debug, Default, PartialEq, Eq)]
 pub struct Record {
     pub parameters: Parameters,
@@ -27,6 +27,7 @@ pub struct Record {
     pub place: usize,
     pub granted: u64,
     pub spent: u64,
+    pub deepest: i64,
 }
 
 // How an accepted grant ends: "failed", "ended", "paused", "output full".
@@ -133,13 +134,15 @@ impl Record {
 
     pub const MAX_GRANTED: u64 = 1_000_000_000_000_000;
 
-    // The fresh record: all 0 but SHR = B-1, with its parameters.
+    // The fresh record: all 0 but SHR and the deepest SHR, which are B-1, with its parameters.
     pub fn fresh(parameters: Parameters) -> Self
         ensures { result ≡ fresh_record parameters }
     {
+        let head = i64::from(parameters.b) - 1;
         Record {
             parameters,
-            shr: i64::from(parameters.b) - 1,
+            shr: head,
+            deepest: head,
             ..Record::default()
         }
     }

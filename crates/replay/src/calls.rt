@@ -82,6 +82,7 @@ fn put_record(to: &mut Printer, rec: Record) {
     to.put(rec.place);
     to.put(rec.granted);
     to.put(rec.spent);
+    to.put(rec.deepest);
 }
 
 // 1 failed, 2 ended, 3 paused, 4 output full, as the stored outputs have it; tak's numbers are the header's. No `From`: neither type is this crate's.
@@ -179,7 +180,8 @@ impl<'a> Machine<'a> {
         to.put_values(out);
     }
 
-    // Changes a field of the record: the five parameters, then IAR, IRCR, SHR, the place, granted, spent. The stored cases have these numbers.
+    // Changes a field of the record: the five parameters, then IAR, IRCR, SHR, the place, granted, spent, the greatest SHR. The stored cases have these
+    // numbers.
     fn set_field(&mut self, index: u64, v: u64) {
         let rec = &mut self.rec;
         match index {
@@ -193,7 +195,8 @@ impl<'a> Machine<'a> {
             7 => rec.shr = v.cast_signed(),
             8 => rec.place = v as usize,
             9 => rec.granted = v,
-            _ => rec.spent = v,
+            10 => rec.spent = v,
+            _ => rec.deepest = v.cast_signed(),
         }
     }
 

@@ -1,7 +1,9 @@
 -- What each exported function hands back is what the definition says, from what the functions below it promise. Assumes nothing.
 use Prim.Native.Nat.{ℕ}
+use mathlib.Core.Bool.{Bool, true, false, cond}
 use mathlib.Core.List.{List}
 use mathlib.Core.Path.{◌≡◌, refl, ◌∙◌}
+use native.Mathlib.Omega.{arith}
 use lib.IntN.{ℤ}
 use lib.ListN.{length}
 use borrow.Author.Tests.{ne_eqb}
@@ -18,6 +20,11 @@ use Rattle.machine.specs.CallContracts.{StartIs, GrantIs}
 use Rattle.tak.specs.Calls.{Slices, tak_start, ending_number, outcome_ending, tak_grant}
 use Rattle.tak.specs.Records.{fields_of, record_after, record_from, record_length}
 use Rattle.std.proofs.Common.{rules}
+
+-- A call that returned 0 was not refused for its record slice.
+pub sized : {A : Type 0} (number : A → ℕ) (b : Bool) (y z : A) → number z ≡ 100 → number (cond b y z) ≡ 0 → cond b y z ≡ y
+sized number true y z h k = refl
+sized number false y z h k = absurd (omega (arith, h, k))
 
 -- The record slice: an accepted call's record is put there, and a refusal leaves it.
 after-accepted : (rec : Record) (old : List ℤ) → fields_of rec ≡ record_after 0 rec old

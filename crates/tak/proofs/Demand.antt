@@ -1,6 +1,5 @@
 -- DEMAND 3 of calls from C: of every list of calls of tak_grant, from a call of tak_start that returned 0. Assumes nothing.
 use Prim.Native.Nat.{ℕ, zero, suc}
-use mathlib.Core.Bool.{Bool, true, false, cond}
 use mathlib.Core.List.{List, [], ◌∷◌}
 use mathlib.Core.Path.{◌≡◌, refl, sym, ap, ◌∙◌}
 use native.Mathlib.Omega.{arith}
@@ -22,6 +21,7 @@ use Rattle.machine.proofs.Demand.{input-unread}
 use Rattle.tak.specs.Calls.{Slices, held_in, StartCall, start_replied, tak_start, GrantCall, grant_replied, tak_grant}
 use Rattle.tak.specs.Lists.{Chain, nothing, called, all_replied, CallsDemand3}
 use Rattle.tak.specs.Records.{record_after, fields_of, record_length}
+use Rattle.tak.proofs.CallLaws.{sized}
 use Rattle.tak.proofs.Exact.{Fitting, read_back, fresh-fitting, granted-fitting}
 
 -- The slices of a record and memory.
@@ -86,11 +86,6 @@ module _ (e : Environment) where
       }
 
 -- AN ACCEPTED START
--- A call that returned 0 was answered by document 01's start.
-sized : (b : Bool) (y z : StartCall) → z.number ≡ 100 → (cond b y z).number ≡ 0 → cond b y z ≡ y
-sized true y z h k = refl
-sized false y z h k = absurd (omega (arith, h, k))
-
 module _ (e : Environment) (s : Slices) (x : StartCall)
     (is : tak_start (environment_of e.parameters e.image []) s ≡ x) (accepted : x.number ≡ 0) where
   abbrev begun : Started
@@ -100,7 +95,7 @@ module _ (e : Environment) (s : Slices) (x : StartCall)
   unfolding tak_start
   replied =
       sym is
-      ∙ sized (eqb (length s.fields) record_length) (start_replied (started _ s.memory) s.fields) _ refl
+      ∙ sized (λ (y : StartCall). y.number) (eqb (length s.fields) record_length) (start_replied (started _ s.memory) s.fields) _ refl
       (ap (λ (y : StartCall). y.number) is ∙ accepted)
       ∙ ap (λ (y : Started). start_replied y s.fields) (input-unread e s.memory)
 

@@ -70,6 +70,7 @@ module _ (lent : Environment) (s : Slices) (c : Call) where
       ∷ held_exact most64 (at fields 8) (omega (arith, a.state.place, g.input-length)) i
       ∷ held_exact most64 (at fields 9) (omega (arith, a.granted)) i
       ∷ held_exact most64 (at fields 10) (omega (arith, a.spent, a.granted)) i
+      ∷ at fields 11
       ∷ [] in
       same ∙ all-elements record_length 0 fields (omega arith)
 
@@ -116,6 +117,7 @@ read_back r h i =
       place = held_back most64 r.place h.place i;
       granted = held_back most64 r.granted h.granted i;
       spent = held_back most64 r.spent h.spent i;
+      deepest = r.deepest;
     }
 
 pub fresh-fitting : (p : Parameters) → Fit p → Fitting (fresh_record p)

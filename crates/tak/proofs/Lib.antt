@@ -3,4 +3,5 @@ pub mod Narrow
 pub mod CallLaws
 pub mod Exact
 pub mod Demand
+pub mod Deepest
 pub mod Refusal10

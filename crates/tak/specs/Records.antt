@@ -21,9 +21,9 @@ at z i = get_or z i (pos 0)
 
 -- How many numbers a record is.
 abbrev pub record_length : ℕ
-record_length = 11
+record_length = 12
 
--- The record that the numbers are: K N S B T, IAR, IRCR, SHR, the input place, granted, spent.
+-- The record that the numbers are: K N S B T, IAR, IRCR, SHR, the input place, granted, spent, the deepest SHR.
 abbrev pub record_from : List ℤ → Record
 record_from z =
     record {
@@ -34,6 +34,7 @@ record_from z =
       place = held most64 (at z 8);
       granted = held most64 (at z 9);
       spent = held most64 (at z 10);
+      deepest = at z 11;
     }
 
 -- The numbers of a record, in that order.
@@ -50,6 +51,7 @@ fields_of r =
     ∷ pos r.place
     ∷ pos r.granted
     ∷ pos r.spent
+    ∷ r.deepest
     ∷ []
 
 -- The record slice after a call: its record where the number is 0; a refusal leaves the slice.

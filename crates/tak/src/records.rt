@@ -27,7 +27,9 @@ const GRANTED: usize = 9;
 
 const SPENT: usize = 10;
 
-pub const RECORD_LENGTH: usize = 11;
+const DEEPEST: usize = 11;
+
+pub const RECORD_LENGTH: usize = 12;
 
 // The number where 32 bits hold it, else their greatest, which no check lets pass. This and held_long are no one generic function: at a type parameter its
 // contract could not say `held`, which is of numbers.
@@ -63,6 +65,7 @@ pub fn record_from(fields: &[i64]) -> Record
         place: held_long(fields[PLACE]) as usize,
         granted: held_long(fields[GRANTED]),
         spent: held_long(fields[SPENT]),
+        deepest: fields[DEEPEST],
     }
 }
 
@@ -84,5 +87,6 @@ pub fn put_record(rec: Record, fields: &mut [i64])
         rec.place as i64,
         rec.granted as i64,
         rec.spent as i64,
+        rec.deepest,
     ]);
 }

@@ -2,7 +2,7 @@
 
 use std::fmt;
 
-use model::Parameters;
+use model::{Parameters, RECORD_LENGTH};
 
 /// A change of what a call is lent. Indices are taken modulo the length of their slice.
 #[derive(Clone, Debug, PartialEq)]
@@ -81,7 +81,10 @@ fn bytes(bytes: &[u8]) -> String {
 impl fmt::Display for Case {
     fn fmt(&self, out: &mut fmt::Formatter<'_>) -> fmt::Result {
         let Parameters { n, s, .. } = self.parameters;
-        writeln!(out, "  lengths: {n} registers, {s} cells, record 11")?;
+        writeln!(
+            out,
+            "  lengths: {n} registers, {s} cells, record {RECORD_LENGTH}"
+        )?;
         for load in &self.loads {
             let Parameters { k, n, s, b, t } = load.parameters;
             writeln!(

@@ -186,6 +186,8 @@ pub fn compare(
         }
     }
 
+    // How many grants of the list that begins at the start took steps, and whether each had what the one before it left.
+    let (mut stepping, mut unedited) = (0, true);
     for (index, grant) in case.grants.iter().enumerate() {
         let saved = grant.restore.then(|| state.clone());
         state.edit(&grant.edits);
@@ -223,16 +225,21 @@ pub fn compare(
                 other.cells.get_mut(),
                 other_output.get_mut(),
             );
-            cover.after_grant(&reply, grant.cycles, &before);
+            cover.after_grant(&reply, grant.cycles, &before, state.record.get());
             let found = replies(&reply, &other_reply)
                 .or_else(|| state.difference(&other))
                 .or_else(|| output.difference(&other_output, "output"));
             if let Some(found) = found {
                 return Some(format!("grant {index}: {found}"));
             }
+            if unedited && grant.edits.is_empty() && !grant.restore && reply.spent > 0 {
+                stepping += 1;
+                cover.list(stepping);
+            }
         }
-        if let Some(saved) = saved {
-            state = saved;
+        match saved {
+            Some(saved) => state = saved,
+            None => unedited &= grant.edits.is_empty(),
         }
     }
 

@@ -16,6 +16,8 @@ pub struct Cover {
     unfit: Vec<&'static str>,
     bad_image: &'static str,
     bad_lengths: &'static str,
+    /// Whether a PUSH fails in the coming grant.
+    push_fails: bool,
     pub skipped: u64,
 }
 
@@ -28,6 +30,7 @@ impl Cover {
             unfit: Vec::new(),
             bad_image: "",
             bad_lengths: "",
+            push_fails: false,
             skipped: 0,
         }
     }
@@ -94,6 +97,8 @@ impl Cover {
         }
         // A second run on copies tells the steps.
         let steps = &mut self.steps;
+        let push_fails = &mut self.push_fails;
+        *push_fails = false;
         grant_watched(
             &mut record.to_vec(),
             cycles,
@@ -102,11 +107,14 @@ impl Cover {
             &mut registers.to_vec(),
             &mut cells.to_vec(),
             &mut vec![0; output_length],
-            |instruction, code| steps[instruction as usize][code as usize] += 1,
+            |instruction, code| {
+                steps[instruction as usize][code as usize] += 1;
+                *push_fails |= instruction == PUSH && code != 0;
+            },
         );
     }
 
-    pub fn after_grant(&mut self, reply: &Granted, cycles: u64, record: &[i64]) {
+    pub fn after_grant(&mut self, reply: &Granted, cycles: u64, before: &[i64], after: &[i64]) {
         if !self.counting {
             return;
         }
@@ -114,8 +122,11 @@ impl Cover {
         match reply.refusal {
             0 => {
                 self.count(format!("ending {}", reply.ending));
-                if record[record::GRANTED] + cycles as i64 == MAX_GRANTED as i64 {
+                if before[record::GRANTED] + cycles as i64 == MAX_GRANTED as i64 {
                     self.count("grant 0 with all cycles granted".into());
+                }
+                for name in deepest(before, after, self.push_fails) {
+                    self.count(format!("grant 0 with deepest {name}"));
                 }
             }
             9 => self.count(format!("grant 9 {}", self.bad_lengths)),
@@ -128,6 +139,13 @@ impl Cover {
             17 if cycles > MAX_GRANT => self.count("grant 17 by the cycles".into()),
             17 => self.count("grant 17 by the sum".into()),
             _ => (),
+        }
+    }
+
+    /// So many grants of a list have taken steps.
+    pub fn list(&mut self, stepping: u32) {
+        if self.counting {
+            self.count(format!("{stepping} grants of a list that take steps"));
         }
     }
 
@@ -214,13 +232,15 @@ const IMAGE_FAULTS: [&str; 8] = [
     "words behind a zero head",
 ];
 
-const UNFIT: [&str; 16] = [
+const UNFIT: [&str; 18] = [
     "IAR below",
     "IAR above",
     "IRCR below",
     "IRCR above",
     "SHR below",
     "SHR above",
+    "deepest below",
+    "deepest above",
     "place below",
     "place above",
     "granted above",
@@ -231,6 +251,19 @@ const UNFIT: [&str; 16] = [
     "a cell below",
     "a cell above",
     "granted below",
+];
+
+/// Where `deepest` stood before an accepted grant, and what became of it.
+const DEEPEST: [&str; 9] = [
+    "at SHR",
+    "between SHR and S-1",
+    "at S-1",
+    "at -1",
+    "raised",
+    "raised and left behind",
+    "kept by POP",
+    "kept by PUSH",
+    "kept by a failing PUSH",
 ];
 
 fn required() -> Vec<String> {
@@ -265,6 +298,12 @@ fn required() -> Vec<String> {
     names.push("grant 17 by the cycles".into());
     names.push("grant 17 by the sum".into());
     names.push("grant 0 with all cycles granted".into());
+    for name in DEEPEST {
+        names.push(format!("grant 0 with deepest {name}"));
+    }
+    for stepping in 1..=5 {
+        names.push(format!("{stepping} grants of a list that take steps"));
+    }
     for number in ending::FAILED..=ending::OUTPUT_FULL {
         names.push(format!("ending {number}"));
     }
@@ -295,13 +334,17 @@ fn unfit(
     let Parameters { s, b, t, .. } = parameters;
     let m = parameters.m();
     let (granted, spent) = (record[record::GRANTED], record[record::SPENT]);
+    let (shr, deepest) = (record[record::SHR], record[record::DEEPEST]);
     let conditions = [
         record[record::IAR] < 0,
         record[record::IAR] > t.into(),
         record[record::IRCR] < 0,
         record[record::IRCR] > 3,
-        record[record::SHR] < i64::from(b) - 1,
-        record[record::SHR] >= s.into(),
+        shr < i64::from(b) - 1,
+        shr >= s.into(),
+        // Nothing fits above an SHR of S or more, which is then the one at fault.
+        deepest < shr && shr < s.into(),
+        deepest >= s.into(),
         record[record::PLACE] < 0,
         record[record::PLACE] > input as i64,
         granted > MAX_GRANTED as i64,
@@ -314,6 +357,33 @@ fn unfit(
         granted < 0,
     ];
     UNFIT
+        .into_iter()
+        .zip(conditions)
+        .filter_map(|(name, holds)| holds.then_some(name))
+        .collect()
+}
+
+/// The names of `DEEPEST` that hold of an accepted grant.
+fn deepest(before: &[i64], after: &[i64], push_fails: bool) -> Vec<&'static str> {
+    let (shr, deepest, last) = (
+        before[record::SHR],
+        before[record::DEEPEST],
+        before[record::S] - 1,
+    );
+    let kept = after[record::DEEPEST] == deepest;
+    let on_top = after[record::DEEPEST] == after[record::SHR];
+    let conditions = [
+        deepest == shr,
+        shr < deepest && deepest < last,
+        deepest == last,
+        deepest == -1,
+        !kept && on_top,
+        !kept && !on_top,
+        kept && after[record::SHR] < shr,
+        kept && after[record::SHR] > shr,
+        kept && push_fails,
+    ];
+    DEEPEST
         .into_iter()
         .zip(conditions)
         .filter_map(|(name, holds)| holds.then_some(name))

@@ -29,10 +29,11 @@ pub fn case(seed: u64, number: u64) -> Case {
 /// A program that runs, with grants, refused calls among them.
 fn running(random: &mut Random) -> Case {
     let parameters = parameters(random);
-    let program = match random.below(10) {
+    let program = match random.below(12) {
         0..4 => repaired(random, parameters),
         4..6 => mixing(random, parameters),
         6..9 => known(random, parameters),
+        9..11 => stacking(random, parameters),
         _ => random_lines(random, parameters),
     };
     let text = spell(random, &program);
@@ -338,6 +339,37 @@ fn mixing(random: &mut Random, parameters: Parameters) -> Vec<Line> {
         instruction: JMP,
         arguments: vec![Argument::Number(0)],
     });
+    program
+}
+
+/// A program of PUSH and POP that fills the stack and empties it, over and over or once; few of them fail on the first way.
+fn stacking(random: &mut Random, parameters: Parameters) -> Vec<Line> {
+    let room = parameters.s - parameters.b;
+    let most = i64::from(parameters.t.min(40));
+    let mut height = 0;
+    let mut program: Vec<Line> = (0..random.within(1, most))
+        .map(|_| {
+            let push = if random.chance(95) && (height == 0 || height == room) {
+                height == 0
+            } else {
+                random.chance(55)
+            };
+            let instruction = if push { PUSH } else { POP };
+            height = if push {
+                room.min(height + 1)
+            } else {
+                height.saturating_sub(1)
+            };
+            line(random, instruction, parameters, most)
+        })
+        .collect();
+    if random.chance(50) {
+        program.pop();
+        program.push(Line {
+            instruction: JMP,
+            arguments: vec![Argument::Number(0)],
+        });
+    }
     program
 }
 
@@ -932,7 +964,9 @@ fn record_edit(random: &mut Random, case: &Case) -> Edit {
         record::T => &[0, 4096, 4097, m, m - 1, t - 1, t + 1, t + far, t - far],
         record::IAR => &[-1, 0, t, t + 1, t - 1, far, far + 1, t - far, t / 2],
         record::IRCR => &[-1, 0, 1, 2, 3, 4, far, far + 1, 256, 257],
-        record::SHR => &[b - 2, b - 1, b, s - 1, s, far + s - 1, s - 1 - far, -2, -1],
+        record::SHR | record::DEEPEST => {
+            &[b - 2, b - 1, b, s - 1, s, far + s - 1, s - 1 - far, -2, -1]
+        }
         record::PLACE => &[
             -1,
             0,
@@ -953,6 +987,23 @@ fn record_edit(random: &mut Random, case: &Case) -> Edit {
         _ => random.pick(usual),
     };
     Edit::Record(field, value)
+}
+
+/// An SHR within its bounds, with a `deepest` at one of its own, beside one or between them.
+fn stack_edits(random: &mut Random, parameters: Parameters) -> [Edit; 2] {
+    let (s, b) = (i64::from(parameters.s), i64::from(parameters.b));
+    let shr = random.within(b - 1, s - 1);
+    let deepest = match random.below(6) {
+        0 => shr - 1,
+        1 => shr,
+        2 => s - 1,
+        3 => s,
+        _ => random.within(shr, s - 1),
+    };
+    [
+        Edit::Record(record::SHR, shr),
+        Edit::Record(record::DEEPEST, deepest),
+    ]
 }
 
 fn memory_edit(random: &mut Random, parameters: Parameters) -> Edit {
@@ -1004,9 +1055,12 @@ fn grant(random: &mut Random, case: &Case, lines: usize) -> Grant {
         cycles,
         output_length: output_length as usize,
         edits: Vec::new(),
-        restore: true,
+        restore: false,
     };
-    if random.chance(30) {
+    if random.chance(4) {
+        grant.edits.extend(stack_edits(random, parameters));
+        grant.restore = random.chance(50);
+    } else if random.chance(30) {
         for _ in 0..if random.chance(75) { 1 } else { 2 } {
             let image = 4 * parameters.t as usize;
             let edit = match random.below(24) {

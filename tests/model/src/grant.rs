@@ -75,6 +75,7 @@ pub fn grant_watched(
         place: record[record::PLACE] as usize,
         granted: record[record::GRANTED] as u64,
         spent: record[record::SPENT] as u64,
+        deepest: record[record::DEEPEST] as i32,
     };
     let (ending, values) = machine.run(output, watch);
     record[record::IAR] = machine.iar.into();
@@ -82,6 +83,7 @@ pub fn grant_watched(
     record[record::SHR] = machine.shr.into();
     record[record::PLACE] = machine.place as i64;
     record[record::SPENT] = machine.spent as i64;
+    record[record::DEEPEST] = machine.deepest.into();
     Granted {
         refusal: 0,
         ending,
@@ -111,9 +113,11 @@ fn accept(
     )?;
     check(parameters, image, registers, cells)?;
     let granted = record[record::GRANTED];
+    let (shr, last) = (record[record::SHR], i64::from(parameters.s) - 1);
     let fits = (0..=i64::from(parameters.t)).contains(&record[record::IAR])
         && (0..=3).contains(&record[record::IRCR])
-        && (i64::from(parameters.b) - 1..i64::from(parameters.s)).contains(&record[record::SHR])
+        && (i64::from(parameters.b) - 1..=last).contains(&shr)
+        && (shr..=last).contains(&record[record::DEEPEST])
         && (0..=granted).contains(&record[record::SPENT])
         && (0..=MAX_GRANTED as i64).contains(&granted)
         && (0..=input.len() as i64).contains(&record[record::PLACE]);
@@ -215,6 +219,8 @@ struct Machine<'a> {
     place: usize,
     granted: u64,
     spent: u64,
+    /// The greatest SHR reached since start.
+    deepest: i32,
 }
 
 impl Machine<'_> {
@@ -248,6 +254,7 @@ impl Machine<'_> {
             }
             watch(cell[0], self.ircr);
             self.spent += cost;
+            self.deepest = self.deepest.max(self.shr);
             written += values;
         }
     }

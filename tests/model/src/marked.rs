@@ -1,4 +1,4 @@
-//! The marked runs of document 01, with the answers that it states: K = 8, N = 2, S = 4, B = 2, T = 6.
+//! The marked runs of document 01, with the answers that it states, and some of `deepest`: K = 8, N = 2, S = 4, B = 2, T = 6.
 
 use model::{Parameters, RECORD_LENGTH, ending, record};
 
@@ -87,6 +87,17 @@ pub fn check(machine: &dyn Machine) -> Vec<String> {
         "PUSH SHR",
         after.cells == [0, 0, 2, 0] && after.record[record::SHR] == 2,
     );
+    // Programs with the SHR that they leave and the greatest that they reached.
+    for (text, shr, deepest) in [
+        ("PUSH SHR", 2, 2),
+        ("PUSH R0\nPUSH R0\nPOP R0\nPOP R0\nPUSH R0", 2, 3),
+        ("PUSH R0\nPUSH R0\nPUSH R0", 3, 3),
+        ("POP R0", 1, 1),
+    ] {
+        let record = run(machine, text).record;
+        let holds = record[record::SHR] == shr && record[record::DEEPEST] == deepest;
+        hold(&format!("deepest after {text:?}"), holds);
+    }
     let after = run(machine, "NOP\nNOP\nNOP\nNOP\nSKIP");
     hold(
         "SKIP at cell 4",
@@ -137,6 +148,6 @@ pub fn check(machine: &dyn Machine) -> Vec<String> {
     ];
     hold("grants of 52, 50 and 1", replies == expected);
     hold("output", output == [-1, 7, 7]);
-    hold("record", record == [8, 2, 4, 2, 6, 4, 0, 1, 0, 103, 103]);
+    hold("record", record == [8, 2, 4, 2, 6, 4, 0, 1, 0, 103, 103, 1]);
     faults
 }

@@ -28,6 +28,7 @@ pub fn start(
         *place = parameter.into();
     }
     record[crate::record::SHR] = i64::from(b) - 1;
+    record[crate::record::DEEPEST] = i64::from(b) - 1;
     0
 }
 

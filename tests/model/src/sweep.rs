@@ -20,6 +20,9 @@ pub fn sweep(first: &dyn Machine, second: &dyn Machine) -> (u64, Vec<String>) {
             note(steps(first, second, instruction, k, &edges(k)));
         }
     }
+    for turns in 0..1 << STACK_CELLS {
+        note(stacks(first, second, turns));
+    }
     for head in 0..64 {
         note(images(first, second, head));
     }
@@ -106,7 +109,7 @@ fn steps(
             // The third register is a target at or near the ends of 0..T-1.
             let c = (a ^ b).rem_euclid(5) - 1;
             let run = |machine: &dyn Machine| {
-                let mut record = [k.into(), 3, 2, 1, 3, 0, 0, 0, 0, 300, 0];
+                let mut record = [k.into(), 3, 2, 1, 3, 0, 0, 0, 0, 300, 0, 0];
                 let mut registers = [*a, *b, c];
                 let mut cells = [*b, *a];
                 let mut output = [7; 4];
@@ -127,6 +130,49 @@ fn steps(
                 let name = INSTRUCTIONS[instruction as usize - 1].name;
                 return Some(format!(
                     "{parameters:?}, image {image:X?} ({name}), R0 {a}, R1 {b}, R2 {c}, 300 cycles: {ours:?}, {theirs:?}"
+                ));
+            }
+        }
+    }
+    None
+}
+
+/// The cells of a program of `stacks`.
+const STACK_CELLS: usize = 6;
+
+/// A program of PUSH and POP, as the bits of a number say, from all SHR and all `deepest` at and between their bounds and
+/// one beyond, in two grants.
+fn stacks(first: &dyn Machine, second: &dyn Machine, turns: u32) -> Option<String> {
+    let mut image = [0; 4 * STACK_CELLS];
+    for (place, cell) in image.chunks_exact_mut(4).enumerate() {
+        cell[0] = if turns >> place & 1 == 0 { PUSH } else { POP };
+        cell[1] = REGISTER << 30;
+    }
+    for (s, b) in (1..=4).flat_map(|s| (0..=s).map(move |b| (s, b))) {
+        for (shr, deepest) in (b - 2..=s).flat_map(|shr| (b - 2..=s).map(move |d| (shr, d))) {
+            let before = [8, 1, s, b, STACK_CELLS as i64, 0, 0, shr, 0, 0, 0, deepest];
+            let run = |machine: &dyn Machine| {
+                let mut record = before;
+                let mut registers = [3];
+                let mut cells = vec![5; s as usize];
+                let replies = [20, 28].map(|cycles| {
+                    let mut output = [];
+                    machine.grant(
+                        &mut record,
+                        cycles,
+                        &image,
+                        b"",
+                        &mut registers,
+                        &mut cells,
+                        &mut output,
+                    )
+                });
+                (replies, record, registers, cells)
+            };
+            let (ours, theirs) = (run(first), run(second));
+            if ours != theirs {
+                return Some(format!(
+                    "record {before:?}, image {image:X?}, 20 and 28 cycles: {ours:?}, {theirs:?}"
                 ));
             }
         }

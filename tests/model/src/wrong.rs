@@ -3,7 +3,7 @@
 use model::grant::cost;
 use model::instructions::*;
 use model::record::{
-    GRANTED, IAR as RECORD_IAR, IRCR as RECORD_IRCR, PLACE, SHR as RECORD_SHR, SPENT,
+    DEEPEST, GRANTED, IAR as RECORD_IAR, IRCR as RECORD_IRCR, PLACE, S, SHR as RECORD_SHR, SPENT,
 };
 use model::{Granted, Loaded, Parameters, RECORD_LENGTH, Written, ending};
 
@@ -29,6 +29,13 @@ pub enum Fault {
     ImageTailKept,
     RefusedStartWritesRecord,
     StartKeepsLastCell,
+    DeepestStartsAtZero,
+    DeepestIsLastShr,
+    DeepestHigh,
+    DeepestCountsFailingPush,
+    DeepestAllowedAtS,
+    DeepestAllowedBelowShr,
+    DeepestRefusedAtTop,
     FloorDivision,
     ModuloOfDivisor,
     ArithmeticShiftAsLogical,
@@ -39,12 +46,14 @@ pub enum Fault {
     ClearRegClearsCells,
     CmpLeAsLt,
     CodeOneForDivisorZero,
+    DeepestAnewAtGrant,
+    DeepestFallsAtPop,
     /// No fault, but single steps: the comparison must find nothing.
     None,
 }
 
 impl Fault {
-    pub const ALL: [Fault; 28] = [
+    pub const ALL: [Fault; 37] = [
         Fault::SpentReplyHigh,
         Fault::SpentRecordHigh,
         Fault::ShrHigh,
@@ -63,6 +72,13 @@ impl Fault {
         Fault::ImageTailKept,
         Fault::RefusedStartWritesRecord,
         Fault::StartKeepsLastCell,
+        Fault::DeepestStartsAtZero,
+        Fault::DeepestIsLastShr,
+        Fault::DeepestHigh,
+        Fault::DeepestCountsFailingPush,
+        Fault::DeepestAllowedAtS,
+        Fault::DeepestAllowedBelowShr,
+        Fault::DeepestRefusedAtTop,
         Fault::FloorDivision,
         Fault::ModuloOfDivisor,
         Fault::ArithmeticShiftAsLogical,
@@ -73,6 +89,8 @@ impl Fault {
         Fault::ClearRegClearsCells,
         Fault::CmpLeAsLt,
         Fault::CodeOneForDivisorZero,
+        Fault::DeepestAnewAtGrant,
+        Fault::DeepestFallsAtPop,
     ];
 
     /// Whether the fault is one of a step, and not of a reply or a buffer.
@@ -120,6 +138,7 @@ impl Machine for Wrong {
                     *cell = old;
                 }
             }
+            Fault::DeepestStartsAtZero if refusal == 0 => record[DEEPEST] = 0,
             _ => (),
         }
         refusal
@@ -138,15 +157,33 @@ impl Machine for Wrong {
         if self.0.of_step() {
             return self.grant_by_steps(record, cycles, image, input, registers, cells, output);
         }
-        let shr = record.get(RECORD_SHR).copied();
+        let old = record.to_vec();
+        let mistaken = self.mistaken(record);
+        if let Some(deepest) = mistaken {
+            record[DEEPEST] = deepest;
+        }
         let mut reply = Model.grant(record, cycles, image, input, registers, cells, output);
+        if mistaken.is_some() {
+            record[DEEPEST] = old[DEEPEST];
+        }
         let accepted = reply.refusal == 0;
         let written = reply.values as usize;
         match self.0 {
             Fault::SpentReplyHigh if accepted => reply.spent += 1,
             Fault::SpentRecordHigh if accepted && reply.spent > 0 => record[SPENT] += 1,
-            Fault::ShrHigh if accepted && Some(record[RECORD_SHR]) != shr => {
+            Fault::ShrHigh if accepted && record[RECORD_SHR] != old[RECORD_SHR] => {
                 record[RECORD_SHR] += 1
+            }
+            Fault::DeepestIsLastShr if accepted => record[DEEPEST] = record[RECORD_SHR],
+            Fault::DeepestHigh if accepted && record[DEEPEST] != old[DEEPEST] => {
+                record[DEEPEST] += 1
+            }
+            Fault::DeepestCountsFailingPush
+                if reply.ending == ending::FAILED
+                    && old[RECORD_IRCR] == 0
+                    && image[4 * record[RECORD_IAR] as usize] == PUSH =>
+            {
+                record[DEEPEST] += 1
             }
             Fault::GrantedKeptAfterEnd if reply.ending == ending::ENDED => {
                 record[GRANTED] -= cycles as i64;
@@ -185,6 +222,21 @@ impl Machine for Wrong {
 }
 
 impl Wrong {
+    /// What a wrong check 15 takes a record's `deepest` for.
+    fn mistaken(&self, record: &[i64]) -> Option<i64> {
+        if record.len() != RECORD_LENGTH {
+            return None;
+        }
+        let (shr, deepest, s) = (record[RECORD_SHR], record[DEEPEST], record[S]);
+        let top = s.wrapping_sub(1);
+        match self.0 {
+            Fault::DeepestAllowedAtS if deepest == s => Some(top),
+            Fault::DeepestAllowedBelowShr if deepest < shr => Some(shr),
+            Fault::DeepestRefusedAtTop if deepest == top => Some(s),
+            _ => None,
+        }
+    }
+
     /// A grant as single steps of the model, some of them spoilt: each step gets its own cost and nothing more.
     #[allow(clippy::too_many_arguments)]
     fn grant_by_steps(
@@ -215,6 +267,9 @@ impl Wrong {
             .expect("the model accepted the record");
         let granted = record[GRANTED] + cycles as i64;
         let before = record[SPENT];
+        if self.0 == Fault::DeepestAnewAtGrant {
+            record[DEEPEST] = record[RECORD_SHR];
+        }
         let mut written = 0;
         let mut reply = first;
         // Behind so many single steps the model goes on alone, unspoilt.
@@ -308,6 +363,11 @@ impl Wrong {
             Fault::ClearRegClearsCells if cell[0] == CLEAR_REG => cells.fill(0),
             Fault::CmpLeAsLt if cell[0] == CMPLE && get(cell[1]) == get(cell[2]) => {
                 registers[low(cell[3])] = 0;
+            }
+            Fault::DeepestFallsAtPop
+                if cell[0] == POP && done && record[DEEPEST] == old_record[RECORD_SHR] =>
+            {
+                record[DEEPEST] -= 1;
             }
             Fault::CodeOneForDivisorZero if matches!(cell[0], DIV | MOD) && !done => {
                 record[RECORD_IRCR] = 1;

@@ -1,4 +1,4 @@
-use Prim.Native.Nat.{◌-◌}
+use Prim.Native.Nat.{◌-◌, ◌≤◌}
 use Rattle.model.specs.Step.{as_memory}
 use Rattle.engine.specs.Programs.{environment_in}
 use Rattle.engine.proofs.RunLaws.{RunInvariant}
@@ -6,8 +6,9 @@ use Rattle.engine.proofs.run.Given as goal
 
 abbrev pub invariant-loop-ending : goal.invariant-loop-ending
 invariant-loop-ending l =
-    RunInvariant (environment_in l.program) l.initial.at l.initial.spent l.granted (as_memory l.initial.registers l.initial.cells) l.initial.out l.at l.spent l.count (as_memory l.registers l.cells) l.out
+    (l.allowance ≤ l.granted)
+    × RunInvariant (environment_in l.program) l.initial.at l.initial.peak l.before l.granted (as_memory l.initial.registers l.initial.cells) l.initial.out l.at l.peak (l.granted - l.allowance) l.count (as_memory l.registers l.cells) l.out
 
 abbrev pub decreases-loop-ending : goal.decreases-loop-ending
 decreases-loop-ending l =
-    l.granted - l.spent
+    l.allowance

@@ -4,7 +4,7 @@ use Rattle.model.proofs.Fits.{limits}
 use Rattle.model.specs.Calls.{as_held, as_call}
 use Rattle.model.specs.Step.{environment_of}
 use Rattle.steps.proofs.Tops.{top-between}
-use Rattle.machine.proofs.CallLaws.{fits, sound, grant-refuses, runnable, grant-accepts}
+use Rattle.machine.proofs.CallLaws.{fits, heads-fit, grant-refuses, runnable, grant-accepts}
 use Rattle.machine.proofs.grant.Goals as goal
 
 pub returns-in_err-check_grant : goal.returns-in_err-check_grant
@@ -19,7 +19,7 @@ returns c =
     let e = environment_of c.args.rec.parameters c.args.image.now c.args.input.now in
     let h = as_held c.args.rec c.args.registers.now c.args.cells.now in
     let call = as_call c.args.cycles c.args.out.now in
-    grant-accepts e h call (c.in_ok-check_grant.ensures call.slice) _ (c.core_of.ensures h.memory)
+    grant-accepts e h call (c.in_ok-check_grant.ensures call.slice) _ _ (c.core_of.ensures h.memory) c.peak_of.ensures.0
     (rw c.new.ensures at c.run-ran.ensures) (c.record_of.ensures h.memory)
 
 pub new-requires : goal.new-requires
@@ -48,18 +48,20 @@ pub core_of-requires : goal.core_of-requires
 core_of-requires c =
     let e = environment_of c.args.rec.parameters c.args.image.now c.args.input.now in
     let h = as_held c.args.rec c.args.registers.now c.args.cells.now in
-    let call = as_call c.args.cycles c.args.out.now in
-    let passed = c.in_ok-check_grant.ensures call.slice in
-    let l = limits c.args.rec.parameters (fits e h call passed).start.fit in
-    let s = (sound e h call passed).state in
-    (s.low, s.high, l.s-high)
+    heads-fit e h (as_call c.args.cycles c.args.out.now) (c.in_ok-check_grant.ensures c.args.out.now)
+
+pub peak_of-requires : goal.peak_of-requires
+peak_of-requires c =
+    let e = environment_of c.args.rec.parameters c.args.image.now c.args.input.now in
+    let h = as_held c.args.rec c.args.registers.now c.args.cells.now in
+    heads-fit e h (as_call c.args.cycles c.args.out.now) (c.in_ok-check_grant.ensures c.args.out.now)
 
 pub run-ran-requires : goal.run-ran-requires
 run-ran-requires c =
     let e = environment_of c.args.rec.parameters c.args.image.now c.args.input.now in
     let h = as_held c.args.rec c.args.registers.now c.args.cells.now in
     let call = as_call c.args.cycles c.args.out.now in
-    rw c.new.ensures (runnable e h call (c.in_ok-check_grant.ensures call.slice) _ (c.core_of.ensures h.memory))
+    rw c.new.ensures (runnable e h call (c.in_ok-check_grant.ensures call.slice) _ _ (c.core_of.ensures h.memory) c.peak_of.ensures.0 c.peak_of.ensures.1)
 
 pub record_of-requires : goal.record_of-requires
 record_of-requires c =
@@ -67,5 +69,8 @@ record_of-requires c =
     let h = as_held c.args.rec c.args.registers.now c.args.cells.now in
     let call = as_call c.args.cycles c.args.out.now in
     let l = limits c.args.rec.parameters (fits e h call (c.in_ok-check_grant.ensures call.slice)).start.fit in
-    let s = (rw c.new.ensures at c.run-ran.ensures).sound in
-    (omega (arith, s.iar, l.t-high), omega (arith, top-between c.run-ran.result.core.top c.args.rec.parameters.s s.high, l.s-high))
+    let r = (rw c.new.ensures at c.run-ran.ensures) in (
+      omega (arith, r.sound.iar, l.t-high),
+      omega (arith, top-between c.run-ran.result.core.top c.args.rec.parameters.s r.sound.high, l.s-high),
+      omega (arith, r.peak-high, l.s-high),
+    )

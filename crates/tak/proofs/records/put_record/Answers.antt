@@ -18,6 +18,7 @@ pub returns : goal.returns
 returns c =
     let narrow = c.requires.0 in
     let shr : SFits w64 c.args.rec.shr = record { sfits = omega arith } in
+    let deepest : SFits w64 c.args.rec.deepest = record { sfits = omega arith } in
     c.copy_from_slice.ensures.after
     ∙ (λ i.
     widened c.from.type_inv c.from.ensures i
@@ -31,4 +32,5 @@ returns c =
     ∷ to_z_pos w64 narrow.place i
     ∷ to_z_pos w64 narrow.granted i
     ∷ to_z_pos w64 narrow.spent i
+    ∷ to_z-of_z deepest i
     ∷ [])
