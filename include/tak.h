@@ -95,10 +95,10 @@ enum {
     TAK_OUTPUT_FULL = 4 /* the room left in the output slice does not hold the values of the next step; see tak_grant */
 };
 
-/* Return codes in the record. Arithmetic: 1, the result is outside -M to M - 1; 2, the divisor is 0. IN: 1, the next word of the input
- * is not a number; 2, it is outside -M to M - 1; 3, nothing is left. PUSH: 1, the stack is full. POP: 1, it is empty. NOT, AND, OR,
- * XOR, NAND, NOR: 1, a value is not a truth value (-1 or 0). JMPT and JMPF: 2, the same, before all else. A jump that is taken: 1, the
- * target is not 0 to T - 1. SKIP: 1, there is no cell to go to. */
+/* Return codes in the record. Arithmetic: 1, the result (of DIVR the quotient) is outside -M to M - 1; 2, the divisor is 0. IN: 1, the
+ * next word of the input is not a number; 2, it is outside -M to M - 1; 3, nothing is left. PUSH: 1, the stack is full. POP: 1, it is
+ * empty. NOT, AND, OR, XOR, NAND, NOR: 1, a value is not a truth value (-1 or 0). JMPT and JMPF: 2, the same, before all else. A jump
+ * that is taken: 1, the target is not 0 to T - 1. SKIP: 1, there is no cell to go to. */
 
 /* Refusals: what is wrong, and which calls say so. */
 enum {
@@ -138,15 +138,17 @@ enum {
         /* the grant is over 10^9 cycles, or would take all grants together over 10^15. tak_grant */
     TAK_REFUSED_DECIMAL_LENGTH = 18,
         /* fewer than 11 bytes are lent for a decimal. tak_decimal */
+    TAK_REFUSED_SAME_TARGET = 19,
+        /* the first and the third argument of the line, both of which it writes, are one register. tak_load */
     TAK_REFUSED_RECORD_LENGTH = 100
         /* the record slice has another length than a record. tak_start, tak_grant */
 };
 
 /* Loads a program text into an image of 4*T words, all of which it writes. The text is exactly `text_length` bytes, and a zero byte is one
  * like any other: of a string hand over strlen, not sizeof. LF ends a line, and a last LF begins no further one. `lines` becomes the
- * count of lines, `line` the index of the faulty line, from 0, with the refusals 11 to 14, and else 0.
- * Checks, in order: 1 2 3 4 5 6 7 8 11 12 13 14; 11 to 14 are about the first faulty line, first 11, then 12, then argument after
- * argument from the left, each for 13 and then for 14. */
+ * count of lines, `line` the index of the faulty line, from 0, with the refusals 11 to 14 and 19, and else 0.
+ * Checks, in order: 1 2 3 4 5 6 7 8 11 12 13 14 19; from 11 on they are about the first faulty line, first 11, then 12, then argument
+ * after argument from the left, each for 13 and then for 14, and last 19, which only a line of DIVR gets. */
 uint32_t tak_load(uint32_t k, uint32_t n, uint32_t s, uint32_t b, uint32_t t,
                   const uint8_t *text, size_t text_length,
                   uint32_t *image, size_t image_length,

@@ -12,8 +12,15 @@ from model import (
 
 ENDINGS = ["Failed", "Ended", "Paused", "OutputFull"]
 ODD_ARGUMENTS = "R DM R-1 R+1 X1 D1 1a + - R256 R258 RR0 12- iarx \x80".split()
-OFTEN = "SET SET SET OUT OUT PUSH POP IN ADD SUB JMPLT JMPNEQ INC DEC MOV RSR ASR RSL DIV MOD MUL DUMP_REG".split()
+OFTEN = "SET SET SET OUT OUT PUSH POP IN ADD SUB JMPLT JMPNEQ INC DEC MOV RSR ASR RSL DIV MOD DIVR MUL DUMP_REG".split()
 SEEN = set()  # of SHOWN
+# DIVR with each kind of divisor, its own arguments among them; with B = 0 and an empty stack SHR is -1.
+DIVISIONS = ("DIVR R0 R1 R2", "DIVR R0 R0 R1", "DIVR R0 R1 R1", "DIVR R0 SHR R1", "DIVR R0 IRCR R1", "DIVR R0 IAR R1")
+# Each is a text by itself: 19, what comes before it in its line, and other faulty lines before and behind it.
+TARGETS = (
+    "DIVR R0 R1 R0", "DIVR r00 R1 R0", "DIVR R0 R0 R0", "DIVR R2 SHR R02", "DIVR R0 R9 R0", "DIVR R9 R0 R9", "DIVR IAR R0 IAR", "DIVR R0 DM0 R0", "DIVR R0 R1 R0 R0",
+    "DIVR R0 R0 R1", "DIVR R0 R1 R1", "NOP\nDIVR R0 R1 R0\nFOO", "NOP\nDIVR R0 R9 R1\nDIVR R0 R1 R0", "DIVR R0 R1 R2\nDIVR R1 R0 R1\nDIVR R2 R0 R2",
+)
 
 rnd = random.Random(int(sys.argv[1]))
 
@@ -197,6 +204,25 @@ def call_stack(turn):
     return call_grants(image, b"", record, [3] * p[1], [5] * s, amounts + rnd.choices((0, 8, 16, 24, 40, 60), k=2))
 
 
+def call_division(at, x, y):
+    """A step of DIVR on two values, with just enough cycles, and with one too few and then one more."""
+    p = (8, 3, 2, 0, len(DIVISIONS))
+    image = load(p, "\n".join(DIVISIONS).encode(), [0] * (4 * p[4]))[1]
+    record = {**fresh_record(p), "iar": at}
+    return call_grants(image, b"", record, [x, y, 77], [5] * p[2], [31] if at % 2 else [30, 1])
+
+
+def call_targets(text):
+    """A load, and a start and a grant over an image whose DIVR has one register for both targets."""
+    p = (8, 3, 2, 1, 4)
+    reply, image = load(p, text.encode(), [7] * (4 * p[4]))
+    yield "loads (%s) %s %s" % (parameters_term(p), naturals(text.encode()), naturals([7] * (4 * p[4]))), integers(list(reply) + image)
+    if reply[0] == 0:
+        image[3] = image[1]
+        yield call_start(p, image)
+        yield from call_grants(image, b"", fresh_record(p), [6] * p[1], [5] * p[2], [31])
+
+
 def call_decimal():
     z = rnd.choice([0, 9, 10, -1, -10, 2**31 - 1, -(2**31), rnd.randint(-(2**31), 2**31 - 1), rnd.randint(-2000, 2000)])
     old = [rnd.randrange(256) for _ in range(rnd.choice([0, 9, 10, 11, 12, 14]))]
@@ -220,6 +246,11 @@ def calls(count):
             yield from call_grants(image, text, *random_record(p, text), [random_cycles() for _ in range(rnd.randint(1, 3))])
     for turn in range(30):
         yield from call_stack(turn)
+    for at in range(len(DIVISIONS)):
+        for x, y in ((13, -10), (-13, 10), (-128, -1), (0, 5), (random_value(128), 0), (random_value(128), random_value(128))):
+            yield from call_division(at, x, y)
+    for text in TARGETS:
+        yield from call_targets(text)
 
 
 HEAD = """

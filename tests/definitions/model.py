@@ -3,7 +3,7 @@
 NAMES = (
     "CLEAR_REG CLEAR_DATA_MEM DUMP_REG DUMP_DATA_MEM IN OUT MOV SET PUSH POP SETT SETF NOT AND OR XOR NAND NOR NEG ABS ADD SUB MUL DIV MOD"
     " INC DEC CMPEQ CMPNEQ CMPLT CMPGT CMPLE CMPGE JMP JMPT JMPF JMPEQ JMPNEQ JMPLT JMPGT JMPLE JMPGE SKIP NOP RNOT RAND ROR RXOR RNAND RNOR"
-    " RSL ASL RSR ASR"
+    " RSL ASL RSR ASR DIVR"
 ).split()
 REGISTER, SPECIAL, DIRECT, NUMBER = "register", "special", "direct", "number"
 SPECIALS = {"IAR": 256, "IRCR": 257, "SHR": 258}
@@ -34,6 +34,8 @@ def places(name):
     if name.startswith("JMP"):
         compared = {"JMP": 0, "JMPT": 1, "JMPF": 1}.get(name, 2)
         return [read | {NUMBER}] + [read] * compared
+    if name == "DIVR":
+        return [written, read, written]
     return [read, read, written]
 
 
@@ -48,6 +50,7 @@ PRICES = {
     10: "MUL",
     14: "INC DEC",
     30: "DIV MOD",
+    31: "DIVR",
 }
 BY_MODE = {"IN": (51, 55), "OUT": (51, 55), "SET": (11, 16), "PUSH": (8, 12), "POP": (8, 12), "MOV": (2, 6, 10)}
 
@@ -130,6 +133,8 @@ def read_line(parameters, line):
         if outside[kind]:
             return 14
         arguments.append(argument)
+    if name == "DIVR" and arguments[0] == arguments[2]:
+        return 19
     return (name, arguments)
 
 
@@ -168,7 +173,7 @@ def decode(parameters, words):
     """The instruction of four words; None if empty, False if no line yields them: a line is spelled and read back."""
     if words == [0, 0, 0, 0]:
         return None
-    if not 1 <= words[0] <= 54:
+    if not 1 <= words[0] <= len(NAMES):
         return False
     spelled = [NAMES[words[0] - 1]]
     for word in words[1 : 1 + len(places(spelled[0]))]:
@@ -303,6 +308,10 @@ class Machine:
             return self.target(self.iar + 2)
         elif name == "NOP":
             pass
+        elif name == "DIVR":
+            quotient, remainder = self.result("DIV", values), self.result("MOD", values)
+            self.put(args[2], quotient)
+            self.put(args[0], remainder)
         elif name.startswith("JMP"):
             return self.target(values[0]) if self.taken(name, values) else follow
         else:

@@ -14,10 +14,10 @@ enum { GREAT = 5000, LONG = 65537 };
 /* In the order in which they are made, so that none undoes another: faults of a line before those of the whole text. */
 static const uint32_t faults[] = {
     TAK_REFUSED_INSTRUCTION,    TAK_REFUSED_ARGUMENT_COUNT, TAK_REFUSED_ARGUMENT_FORM, TAK_REFUSED_ARGUMENT_RANGE,
-    TAK_REFUSED_LINE_COUNT,     TAK_REFUSED_TEXT_LENGTH,    TAK_REFUSED_PARAMETER_K,   TAK_REFUSED_PARAMETER_N,
-    TAK_REFUSED_PARAMETER_S,    TAK_REFUSED_PARAMETER_B,    TAK_REFUSED_PARAMETER_T,   TAK_REFUSED_IMAGE_LENGTH,
-    TAK_REFUSED_MEMORY_LENGTH,  TAK_REFUSED_IMAGE,          TAK_REFUSED_RECORD,        TAK_REFUSED_INPUT_LENGTH,
-    TAK_REFUSED_CYCLES,         TAK_REFUSED_DECIMAL_LENGTH, TAK_REFUSED_RECORD_LENGTH,
+    TAK_REFUSED_SAME_TARGET,    TAK_REFUSED_LINE_COUNT,     TAK_REFUSED_TEXT_LENGTH,   TAK_REFUSED_PARAMETER_K,
+    TAK_REFUSED_PARAMETER_N,    TAK_REFUSED_PARAMETER_S,    TAK_REFUSED_PARAMETER_B,   TAK_REFUSED_PARAMETER_T,
+    TAK_REFUSED_IMAGE_LENGTH,   TAK_REFUSED_MEMORY_LENGTH,  TAK_REFUSED_IMAGE,         TAK_REFUSED_RECORD,
+    TAK_REFUSED_INPUT_LENGTH,   TAK_REFUSED_CYCLES,         TAK_REFUSED_DECIMAL_LENGTH, TAK_REFUSED_RECORD_LENGTH,
 };
 
 enum { FAULTS = sizeof faults / sizeof *faults };
@@ -56,7 +56,7 @@ enum { CALLS = sizeof calls / sizeof *calls };
 /* A machine and arguments that every call accepts. */
 static void make_right(void)
 {
-    static const char right[] = "ADD R0 R1 R2\n";
+    static const char right[] = "DIVR R0 R1 R2   \n";
 
     k = 30, n = 3, s = 5, b = 2, t = 7, cycles = 100;
     text_length = sizeof right - 1, image_length = 4 * t, input_length = 0, registers_length = n, cells_length = s;
@@ -77,7 +77,7 @@ static void set(uint32_t *parameter, int position, uint32_t value)
 }
 
 /* An argument of the text's line, counted from 0. */
-static void spoil_argument(int index, const char *word) { memcpy(text + 4 + 3 * index, word, 2); }
+static void spoil_argument(int index, const char *word) { memcpy(text + 5 + 3 * index, word, 2); }
 
 /* Makes the arguments faulty. */
 static void spoil(uint32_t fault)
@@ -100,9 +100,10 @@ static void spoil(uint32_t fault)
     case TAK_REFUSED_MEMORY_LENGTH: cells_length--; break;
     case TAK_REFUSED_IMAGE: image[0] = 63; break;
     case TAK_REFUSED_INSTRUCTION: memcpy(text, "SUM", 3); break;
-    case TAK_REFUSED_ARGUMENT_COUNT: memcpy(text, "ADD R0 R1   ", 12); break;
-    case TAK_REFUSED_ARGUMENT_FORM: spoil_argument(0, "??"); break;
-    case TAK_REFUSED_ARGUMENT_RANGE: spoil_argument(0, "R3"); break;
+    case TAK_REFUSED_ARGUMENT_COUNT: spoil_argument(3, "R1"); break;
+    case TAK_REFUSED_ARGUMENT_FORM: spoil_argument(1, "??"); break;
+    case TAK_REFUSED_ARGUMENT_RANGE: spoil_argument(1, "R3"); break;
+    case TAK_REFUSED_SAME_TARGET: spoil_argument(2, "R0"); break;
     case TAK_REFUSED_RECORD: record[TAK_IAR] = GREAT; break;
     case TAK_REFUSED_INPUT_LENGTH: input_length = LONG; break;
     case TAK_REFUSED_CYCLES: cycles = TAK_MAX_GRANT + 1; break;
@@ -115,10 +116,11 @@ static int of_an_argument(uint32_t fault) { return fault == TAK_REFUSED_ARGUMENT
 
 static int of_a_line(uint32_t fault)
 {
-    return fault == TAK_REFUSED_INSTRUCTION || fault == TAK_REFUSED_ARGUMENT_COUNT || of_an_argument(fault);
+    return fault == TAK_REFUSED_INSTRUCTION || fault == TAK_REFUSED_ARGUMENT_COUNT || of_an_argument(fault) ||
+           fault == TAK_REFUSED_SAME_TARGET;
 }
 
-/* A word that is no instruction takes no count of arguments and no forms, and one argument has one fault. */
+/* A word that is no instruction takes no count of arguments, no forms and no two targets, and one argument has one fault. */
 static int stand_together(uint32_t first, uint32_t second)
 {
     if (first == second) return 1;
@@ -126,7 +128,7 @@ static int stand_together(uint32_t first, uint32_t second)
     return !(of_an_argument(first) && of_an_argument(second));
 }
 
-/* Of two faulty arguments the left one is told, whatever is wrong with each. */
+/* Of two faulty arguments the left one is told, whatever is wrong with each, and not that two are one register. */
 static void two_arguments(void)
 {
     static const struct {
@@ -143,6 +145,13 @@ static void two_arguments(void)
                 printf("refusals: of two faulty arguments the right one is told\n");
                 exit(2);
             }
+        }
+        make_right();
+        spoil_argument(0, wrong[left].word);
+        spoil_argument(2, wrong[left].word);
+        if (load() != wrong[left].refusal || line != 0) {
+            printf("refusals: of one faulty argument, twice, another fault is told\n");
+            exit(2);
         }
     }
 }

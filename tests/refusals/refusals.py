@@ -11,7 +11,7 @@ HEADER = "include/tak.h"
 CALLS = "docs/CALLS.md"
 LANGUAGE = "docs/TCL.md"
 # What takrun can print.
-PRINTED = {1, 2, 3, 4, 5, 7, 8, 11, 12, 13, 14, 16}
+PRINTED = {1, 2, 3, 4, 5, 7, 8, 11, 12, 13, 14, 16, 19}
 
 
 def read(path):
@@ -77,11 +77,12 @@ def in_calls(text, refusals, calls):
     )
 
 
-def in_language(text, refusals):
+def in_language(text, refusals, calls):
     """A table of the refusals that takrun prints, in the order of the checks: load's, then grant's."""
     section = text[text.index("\n## Refusals\n") :].split("\n## ")[1]
     found = re.findall(r"^\| (\d+) \| (.*) \|$", section, re.M)
-    return compared("refusals", found, [(str(number), sentence) for number, (_, sentence) in refusals.items() if number in PRINTED])
+    order = dict.fromkeys(number for call in ("tak_load", "tak_grant") for number in calls[call])
+    return compared("refusals", found, [(str(number), refusals[number][1]) for number in order if number in PRINTED])
 
 
 def in_answers(text, refusals, calls):
@@ -94,7 +95,7 @@ def in_answers(text, refusals, calls):
         tried.add((call, frozenset(faults)))
         if int(answer) != wanted:
             wrong.append(f"{call} with the faults {sorted(faults)} answered {answer} instead of {wanted}")
-    apart = [{11, 12}, {11, 13}, {11, 14}, {13, 14}]
+    apart = [{11, 12}, {11, 13}, {11, 14}, {11, 19}, {13, 14}]
     for call in calls:
         for one in refusals:
             for other in refusals:
@@ -141,7 +142,7 @@ def main():
     refusals, calls = table_of(read(TABLE))
     count([f"{TABLE}: {line}" for line in in_table(refusals, calls)])
     count(header_and_pages(refusals, calls))
-    count([f"{LANGUAGE}: {line}" for line in in_language(language, refusals)])
+    count([f"{LANGUAGE}: {line}" for line in in_language(language, refusals, calls)])
     count(in_answers(answers, refusals, calls))
     if not wrong:  # each alteration makes something wrong of what is right
         for what, other_refusals, other_calls in altered(refusals, calls):

@@ -6,7 +6,7 @@ import sys
 sys.path.insert(0, os.path.join(os.path.dirname(os.path.abspath(__file__)), "..", "definitions"))
 import model
 from deepest import shown
-from model import DIRECT, FIELDS, NUMBER, REGISTER, SPECIAL, decode, fresh_record, grant, image_fits, load, parameter_refusal, price, start_refusal
+from model import DIRECT, FIELDS, NUMBER, REGISTER, SPECIAL, decode, fresh_record, grant, image_fits, load, parameter_refusal, price, read_line, start_refusal
 
 ENDINGS = ["Failed", "Ended", "Paused", "OutputFull"]
 BUFFER = 131072  # of the program; what is read stands before blanks
@@ -83,6 +83,11 @@ def inside(p, form):
 def outside(p, form):
     m = limit(p[0])
     return {REGISTER: [f"R{p[1]}"], SPECIAL: [], DIRECT: [f"DM{p[3]}"], NUMBER: [f"{m}", f"{-m - 1}"]}[form]
+
+
+def accepted(p, make):
+    """The first line of those that `make` makes that load accepts: DIVR may get one register for both targets."""
+    return next(line for line in iter(make, None) if not isinstance(read_line(p, line.encode()), int))
 
 
 def cell_reply(p, words):

@@ -18,8 +18,9 @@ STORED = os.path.join(os.path.dirname(os.path.abspath(__file__)), "..", "..", "c
 ONE_CODE = "PUSH POP NOT AND OR XOR NAND NOR NEG ABS ADD SUB MUL INC DEC JMP JMPEQ JMPNEQ JMPLT JMPGT JMPLE JMPGE SKIP".split()
 CODES = {
     **dict.fromkeys(NAMES, (0,)), **dict.fromkeys(ONE_CODE, (0, 1)), "IN": (0, 1, 2, 3), "DIV": (0, 1, 2), "MOD": (0, 2), "JMPT": (0, 1, 2), "JMPF": (0, 1, 2),
+    "DIVR": (0, 1, 2),
 }
-REFUSALS = {"load": (*range(9), 11, 12, 13, 14), "start": (*range(7), 9, 10), "grant": (*range(7), 9, 10, 15, 16, 17)}
+REFUSALS = {"load": (*range(9), 11, 12, 13, 14, 19), "start": (*range(7), 9, 10), "grant": (*range(7), 9, 10, 15, 16, 17)}
 ANSWERS = {**CODES, **REFUSALS, "ending": range(5), "deepest": SHOWN}
 REACHED = {(name, code) for name, codes in ANSWERS.items() for code in codes}
 

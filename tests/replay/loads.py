@@ -1,7 +1,7 @@
 """Cases of load, the decoder, the prices and the image check."""
 import random
 
-from cases import IMAGE, TOP, case, inside, limit, outside, word
+from cases import IMAGE, TOP, accepted, case, inside, limit, outside, word
 from model import DIRECT, NAMES, NUMBER, REGISTER, SPECIAL, places
 
 FORMS = (REGISTER, SPECIAL, DIRECT, NUMBER)
@@ -21,17 +21,24 @@ SPELLINGS = (
     b"SET R0 -129", b"NOP;", b"NOP//", b"SET R0 13# 14", b"SET R0 1/2", b"SET/R0 1", b";;\n/#\n#/\n", b"NOP ;\x00\xff\x0c,", b"NOP\\", b"NOP x", b"NOP \x0c", b"\xa0NOP",
     b"SET R0 1\x00", b"SET\x00R0 1", b"\xef\xbb\xbfNOP", b"SET R0 \xd9\xa1", b"SET X Y Z", b"SET IAR 128", b"SET R3 X", b"ADD R3 IAR IAR", b"ADD IAR IAR IAR", b"JMPEQ 128 DM0 R0",
     b"JMPEQ DM0 128 R0", b"SET R 0 1", b"SET R0 - 1", b"CLEAR_REG\nclear_data_mem\nDump_Reg\ndUMP_dATA_mEM", b"CLEAR REG",
+    # DIVR with one register for both targets: what its line has before, faulty lines before and behind it, the divisor's register.
+    b"DIVR R0 R1 R0", b"divr r00, R1, R000", b"DIVR R2 R2 R2", b"DIVR R1 SHR R1", b"DIVR R0 R0 R2\nDIVR R0 R2 R2\nDIVR R2 IAR R0", b"DIVR R0 R3 R0", b"DIVR R3 R0 R3",
+    b"DIVR IAR R0 IAR", b"DIVR R0 DM0 R0", b"DIVR R0 R1 R0 R0", b"DIVRR R0 R1 R0", b"NOP\nNOP\nNOP\nDIVR R2 R0 R2", b"DIVR R0 R1 R0\nX", b"X\nDIVR R0 R1 R0",
+    b"NOP\nDIVR R0 R1 R0\nSET R3 1", b"SET R3 1\nDIVR R0 R1 R0", b"DIVR R0 R1 R0\n\n\n\n\n",
 )
 
 
 def usual(name):
-    """A line's arguments with the first form of each place."""
-    return [("R1" if REGISTER in place else "7") for place in places(name)]
+    """A line's arguments with the first form of each place; DIVR's targets are two registers."""
+    arguments = [("R1" if REGISTER in place else "7") for place in places(name)]
+    return arguments[:2] + ["R0"] if name == "DIVR" else arguments
 
 
 def with_argument(name, i, argument):
     arguments = usual(name)
     arguments[i] = argument
+    if name == "DIVR" and arguments[0] == arguments[2]:
+        arguments[2] = "R1"
     return " ".join([name] + arguments)
 
 
@@ -44,7 +51,7 @@ def shown(p, lines):
 def accepted_cases(rng):
     """Each instruction with wide parameters; each form of each place at both ends of its limits."""
     wide, narrow = (30, 256, 4096, 4096, 18), (8, 3, 5, 2, 18)
-    lines = [" ".join([name] + [rng.choice(inside(wide, rng.choice(sorted(place)))) for place in places(name)]) for name in NAMES]
+    lines = [accepted(wide, lambda: " ".join([name] + [rng.choice(inside(wide, rng.choice(sorted(place)))) for place in places(name)])) for name in NAMES]
     forms = [(name, i, form) for name in PATTERNS for i, place in enumerate(places(name)) for form in sorted(place)]
     ends = [with_argument(name, i, argument) for name, i, form in forms for argument in inside(narrow, form)]
     return shown(wide, lines) + shown(narrow, ends)
@@ -78,7 +85,7 @@ def odd_words(p):
     """Kind and content of words at and behind every limit."""
     _, n, _, b, _ = p
     m = limit(p[0])
-    words = [(0, 0), (0, 1), (0, 44), (0, 54), (0, 55), (0, TOP - 1)]
+    words = [(0, 0), (0, 1), (0, 44), (0, 54), (0, 55), (0, 56), (0, TOP - 1)]
     words += [(1, c) for c in (0, n - 1, n, 255, 256, 257, 258, 259, TOP - 1)] + [(2, c) for c in (0, b - 1, b, TOP - 1)]
     return words + [(3, c) for c in (0, 10, m - 1, m, TOP - m, TOP - m - 1, TOP // 2 - 1, TOP // 2, TOP - 1)]
 
@@ -89,11 +96,13 @@ def damaged_cases(rng):
     for name in PATTERNS:
         calls = [call for i in range(4) for call in (word(i, *rng.choice(odd_words(p))), IMAGE)]
         yield case(p, " ".join([name] + usual(name)).encode(), calls)
-    first, absent, head = [(1, 2), (1, 3), (2, 1), (2, 2), (0, 1), (3, TOP - 10)], [(0, 1), (1, 0), (2, 0), (3, 0)], [(0, 7), (0, 55), (0, 0)]
+    first, absent, head = [(1, 2), (1, 3), (2, 1), (2, 2), (0, 1), (3, TOP - 10)], [(0, 1), (1, 0), (2, 0), (3, 0)], [(0, 7), (0, 55), (0, 56), (0, 0)]
     for at, given in ((2, odd_words(p)), (1, first), (3, absent), (0, head)):
         yield case(p, b"SET R0 13", [call for odd in given for call in (word(at, *odd), IMAGE)])
     read = [call for register in (255, 256, 258, 259) for call in (word(1, 1, register), IMAGE)]
     yield case((8, 256, 4, 2, 1), b"NEG R0 R0", read + [word(1, 1, 0), word(2, 1, 256), IMAGE])
+    both = [word(1, 1, 2), word(3, 1, 1), word(2, 1, 2), word(1, 1, 1), word(0, 0, 25), word(0, 0, 55), word(1, 1, 256), word(3, 1, 256), word(1, 1, 0)]
+    yield case(p, b"DIVR R0 R1 R2", [IMAGE] + [call for change in both for call in (change, IMAGE)])
     yield case((8, 2, 4, 0, 3), b"NOP", [word(8, 0, 44), IMAGE, word(4, 0, 44), IMAGE, word(0, 0, 0), IMAGE])
 
 
@@ -117,7 +126,7 @@ def random_line(rng, p):
 def random_case(rng):
     k, n, s = rng.choice((8, rng.randint(8, 30))), rng.choice((1, 2, 255, 256)), rng.randint(1, 127)
     p = (k, n, s, rng.randint(1, s), 8)
-    return case(p, "\n".join(random_line(rng, p) for _ in range(8)).encode() + rng.choice((b"", b"\n")), [IMAGE])
+    return case(p, "\n".join(accepted(p, lambda: random_line(rng, p)) for _ in range(8)).encode() + rng.choice((b"", b"\n")), [IMAGE])
 
 
 def cases():

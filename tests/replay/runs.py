@@ -2,7 +2,7 @@
 import itertools
 import random
 
-from cases import FIELDS, IMAGE, START, State, allow, case, cell, field, inside, limit, register, word
+from cases import FIELDS, IMAGE, START, State, accepted, allow, case, cell, field, inside, limit, register, word
 from model import BY_MODE, DIRECT, NAMES, REGISTER, SPECIAL, places, price, read_line
 
 MOST = 10**15  # that may be granted
@@ -14,7 +14,7 @@ INPUTS = (
     b"+" + b"9" * 30 + b"x",
 )
 OFTEN = (
-    "SET SET SET OUT OUT PUSH POP IN ADD SUB JMPLT JMPNEQ JMP JMPT INC DEC MOV MOV CMPLT CMPEQ SETT AND NOT RSR ASR RSL DIV MOD MUL DUMP_REG SKIP"
+    "SET SET SET OUT OUT PUSH POP IN ADD SUB JMPLT JMPNEQ JMP JMPT INC DEC MOV MOV CMPLT CMPEQ SETT AND NOT RSR ASR RSL DIV MOD DIVR MUL DUMP_REG SKIP"
 ).split()
 
 
@@ -37,7 +37,8 @@ def form_lines(p, name):
     forms = [sorted(place) for place in places(name)]
     for i in range(max(map(len, forms), default=1)):
         spellings = [inside(p, form[i % len(form)]) for form in forms]
-        yield " ".join([name] + [words[(i + j) % len(words)] for j, words in enumerate(spellings)])
+        turns = (0, 1, 1) if name == "DIVR" else (0, 1, 2)  # DIVR's targets are two registers
+        yield " ".join([name] + [words[(i + turn) % len(words)] for turn, words in zip(turns, spellings)])
     if name.startswith("JMP"):
         yield " ".join([name, str(p[4]), "R0", "R1"][: 1 + len(forms)])
 
@@ -87,6 +88,7 @@ def short_cases():
     lines = {}
     for name, choose in itertools.product(NAMES, (min, max)):
         line = " ".join([name] + [inside(p, choose(place))[-1] for place in places(name)])
+        line = "DIVR R0 R1 R2" if name == "DIVR" else line
         lines.setdefault((name if name in BY_MODE or not places(name) else "", cost(p, line)), line)
     calls = [START]
     for at, line in enumerate(lines.values()):
@@ -97,10 +99,26 @@ def short_cases():
 def arithmetic_cases():
     """The ends of the range, reached and passed."""
     pairs = ((127, 1), (127, -1), (-128, -1), (-128, 1), (64, 2), (64, -2), (-13, 10), (13, -10), (5, 0))
-    for name in ("ADD", "SUB", "MUL", "DIV", "MOD"):
+    for name in ("ADD", "SUB", "MUL", "DIV", "MOD", "DIVR"):
         p, line = (8, 3, 1, 0, 1), name + " R0 R1 R2"
         steps = [[register(0, x), register(1, y), field("iar", 0), field("ircr", 0), allow(cost(p, line), 0)] for x, y in pairs]
         yield case(p, line.encode(), [START] + [call for step in steps for call in step])
+
+
+def division_cases():
+    """DIVR with each kind of divisor, its own arguments among them, SHR being -1; just enough cycles and one too few; the ends of the range."""
+    lines = ("DIVR R0 R1 R2", "DIVR R2 R1 R0", "DIVR R0 R0 R2", "DIVR R0 R1 R1", "DIVR R0 SHR R2", "DIVR R0 IRCR R1", "DIVR R1 IAR R0")
+    calls = [START]
+    for at in range(len(lines)):
+        for x, y in ((-13, 10), (-128, -1), (0, 5), (5, 0)):
+            calls += [register(0, x), register(1, y), field("iar", at), field("ircr", 0), allow(31, 0)]
+    yield case((8, 3, 1, 0, len(lines)), joined(lines), calls + [START, register(0, 100), register(1, 7), allow(30), allow(1)])
+    for k in (9, 30):
+        m = limit(k)
+        pairs = ((m - 1, -m), (m - 1, 12), (1 - m, 12), (-m, -1))
+        yield case((k, 3, 1, 0, 4), b"DIVR R0 R1 R2\n" * 4, [START] + [call for x, y in pairs for call in (register(0, x), register(1, y), allow(31))])
+    boxes = b"IN R1\nIN R0\nDIVR R0 R1 R2\nOUT R2\nOUT R0\nJMP 1"
+    yield case((12, 3, 1, 0, 6), boxes, [START, allow(235), allow(0, 5), allow(10**9)], b"12 100 -100 11 2047 -2048")
 
 
 # INPUT AND OUTPUT
@@ -200,10 +218,12 @@ def length_cases():
 def image_cases():
     """Refusal 10, in start and between grants."""
     p = (8, 2, 4, 2, 3)
-    for at, kind, content in ((0, 0, 0), (0, 0, 55), (1, 1, 2), (1, 2, 2), (2, 3, 127), (2, 3, 128), (3, 0, 1), (8, 0, 44), (11, 3, 0)):
+    for at, kind, content in ((0, 0, 0), (0, 0, 55), (0, 0, 56), (1, 1, 2), (1, 2, 2), (2, 3, 127), (2, 3, 128), (3, 0, 1), (8, 0, 44), (11, 3, 0)):
         yield case(p, b"SET R0 13\nSET R1 -10", [word(at, kind, content), START])
     for at, kind, content in ((1, 1, 256), (2, 3, 2**30 - 128), (2, 3, 2**30 - 129), (4, 0, 0)):
         yield case(p, b"SET R0 13\nSET R1 -10", [START, allow(11), word(at, kind, content), allow(11)])
+    for at in (1, 3):
+        yield case(p, b"DIVR R0 R1 R1", [START, register(1, 3), word(at, 1, 2 - at // 2), START, allow(31), word(at, 1, at // 2), allow(31)])
     yield case(p, b"OUT DM1", [START, field("b", 1), allow(60), field("b", 2), allow(60)])
     yield case((9, 2, 4, 2, 3), b"SET R0 200", [START, field("k", 8), allow(60), field("k", 9), allow(60)])
     yield case(p, b"X", [START, allow(9)])
@@ -309,11 +329,11 @@ def random_case(rng):
         if rng.random() < 0.35:
             calls += changed(rng, p)
         calls.append(allow(rng.choice((0, 1, 5, 20, 52, 100, 150, 300, 600)), rng.choice((0, 1, 2, 3, 8, 17))))
-    return case(p, joined(random_line(rng, p) for _ in range(rng.randint(min(p[4], 12) // 2, min(p[4], 24)))), calls, random_input(rng, p[0]))
+    return case(p, joined(accepted(p, lambda: random_line(rng, p)) for _ in range(rng.randint(min(p[4], 12) // 2, min(p[4], 24)))), calls, random_input(rng, p[0]))
 
 
 def cases():
     rng = random.Random(5)
-    listed = [*instruction_cases(rng), *short_cases(), *arithmetic_cases(), *input_cases(), *output_cases(), *list_cases(), *stack_cases()]
+    listed = [*instruction_cases(rng), *short_cases(), *arithmetic_cases(), *division_cases(), *input_cases(), *output_cases(), *list_cases(), *stack_cases()]
     listed += [*look_cases(), *parameter_cases(), *length_cases(), *image_cases(), *record_cases(), *cycle_cases()]
     return listed + [random_case(rng) for _ in range(12)]

@@ -5,7 +5,7 @@ from model import Failure, Machine, read_number
 
 # In the order of the program; those of WITH_CODE print their return code too.
 WITH_CODE = ("NEG", "ABS", "ADD", "SUB", "MUL", "DIV", "MOD", "NOT", "AND", "OR", "XOR", "NAND", "NOR")
-NAMES = WITH_CODE[:7] + ("CMPEQ", "CMPNEQ", "CMPLT", "CMPGT", "CMPLE", "CMPGE") + WITH_CODE[7:] + (
+NAMES = WITH_CODE[:7] + ("DIVR", "CMPEQ", "CMPNEQ", "CMPLT", "CMPGT", "CMPLE", "CMPGE") + WITH_CODE[7:] + (
     "RNOT", "RAND", "ROR", "RXOR", "RNAND", "RNOR", "RSL", "RSR", "ASR")
 
 
@@ -38,13 +38,15 @@ def number(word, m):
 def results(k, x, y):
     machine = Machine((k, 1, 1, 0, 1), b"", {"iar": 0, "ircr": 0, "shr": -1, "place": 0}, [0], [0])
     for name in NAMES:
+        # a DIVR has both values of its division, or the code of the first
+        parts = ("DIV", "MOD") if name == "DIVR" else (name,)
         try:
-            code, value = 0, machine.result(name, [x, y])
+            code, values = 0, [machine.result(part, [x, y]) for part in parts]
         except Failure as failure:
-            code, value = failure.args[0], 0
-        if name in WITH_CODE:
+            code, values = failure.args[0], [0] * len(parts)
+        if name in WITH_CODE or name == "DIVR":
             yield code
-        yield value
+        yield from values
 
 
 def printed(line):

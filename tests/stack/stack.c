@@ -131,8 +131,8 @@ static const char *const RIGHT[] = {
     "CMPEQ R0 R1 R2", "CMPNEQ R0 R1 R2", "CMPLT R0 R1 R2", "CMPGT R0 R1 R2", "CMPLE R0 R1 R2", "CMPGE R0 R1 R2", "JMP 3", "JMP -3",
     "JMPT 1 R0", "JMPF 1 R0", "JMPEQ 1 R0 R1", "JMPNEQ 1 R0 R1", "JMPLT 1 R0 R1", "JMPGT 1 R0 R1", "JMPLE 1 R0 R1", "JMPGE 1 R0 R1",
     "SKIP", "NOP", "RNOT R0 R1", "RAND R0 R1 R2", "ROR R0 R1 R2", "RXOR R0 R1 R2", "RNAND R0 R1 R2", "RNOR R0 R1 R2", "RSL R0", "ASL R0",
-    "RSR R0", "ASR R0", "", "# a comment", "add\tr255,\tr0 , r0007 ; and a comment", "SET R0 +000000000000000000000000000005",
-    "MOV IRCR R0", "SET DM2047 -536870912", "SET DM2047 536870911",
+    "RSR R0", "ASR R0", "DIVR R0 R1 R2", "DIVR R0 R1 R1", "", "# a comment", "add\tr255,\tr0 , r0007 ; and a comment",
+    "SET R0 +000000000000000000000000000005", "MOV IRCR R0", "SET DM2047 -536870912", "SET DM2047 536870911",
 };
 
 /* Faulty lines with their numbers, among them an argument that is faulty and words behind it that are too many. */
@@ -143,7 +143,8 @@ static const struct {
     {11, "MOVE R0 R1"}, {11, "CLEAR_DATA_MEMORY"}, {11, "?"}, {12, "ADD R0 R1"}, {12, "ADD R0 R1 R2 R3"}, {12, "ADD ?? ??"},
     {12, "ADD ?? R1 R2 R3 R4 R5 R6"}, {12, "CLEAR_DATA_MEM 1"}, {13, "ADD R0 R1 5"}, {13, "MOV R0 IAR"}, {13, "SET R0 1x"},
     {13, "SET D0 1"}, {13, "SET R 1"}, {13, "ADD R0 R1 SHRR"}, {14, "ADD R256 ?? R0"}, {14, "SET DM2048 0"}, {14, "SET R0 536870912"},
-    {14, "SET R0 -536870913"}, {14, "SET R0 99999999999999999999999999999999999999999999"},
+    {14, "SET R0 -536870913"}, {14, "SET R0 99999999999999999999999999999999999999999999"}, {14, "DIVR R0 R256 R0"},
+    {19, "DIVR R0 R1 R0"}, {19, "DIVR R00 SHR R0"},
 };
 
 enum { RIGHTS = sizeof RIGHT / sizeof *RIGHT, FAULTS = sizeof FAULTY / sizeof *FAULTY };
@@ -263,7 +264,7 @@ static void start_cases(void) {
     record_length = TAK_RECORD_LENGTH - 1;
     measure_start(TAK_REFUSED_RECORD_LENGTH, "a record slice of another length");
     record_length = TAK_RECORD_LENGTH;
-    image[4 * GREATEST - 4] = 55;
+    image[4 * GREATEST - 4] = 56;
     measure_start(10, "an image that no text yields");
     image_length--;
     measure_start(6, "an image slice of another length");
@@ -320,7 +321,7 @@ static void grant_cases(void) {
     record[TAK_DEEPEST] = p.s;
     note(&grant, painted(call_grant, 0x5A));
     expect(15, "a record with deepest outside its limits");
-    image[4 * GREATEST - 4] = 55;
+    image[4 * GREATEST - 4] = 56;
     note(&grant, painted(call_grant, 0x5A));
     expect(10, "an image that no text yields");
     record[TAK_K] = -1;

@@ -72,7 +72,7 @@ pub struct Granted<'a> {
 ///
 /// In this order: [`Refusal::ParameterK`], `N`, `S`, `B`, `T`, [`Refusal::ImageLength`], [`Refusal::TextLength`],
 /// [`Refusal::LineCount`]; then of the first faulty line [`Refusal::Instruction`], [`Refusal::ArgumentCount`], and for each argument
-/// from the left [`Refusal::ArgumentForm`], [`Refusal::ArgumentRange`].
+/// from the left [`Refusal::ArgumentForm`], [`Refusal::ArgumentRange`]; last [`Refusal::SameTarget`].
 ///
 /// # Panics
 ///

@@ -120,6 +120,8 @@ pub mod refusal {
     pub const CYCLES: u32 = 17;
     /// [`Refusal::DecimalLength`](crate::Refusal::DecimalLength).
     pub const DECIMAL_LENGTH: u32 = 18;
+    /// [`Refusal::SameTarget`](crate::Refusal::SameTarget).
+    pub const SAME_TARGET: u32 = 19;
     /// [`Refusal::RecordLength`](crate::Refusal::RecordLength).
     pub const RECORD_LENGTH: u32 = 100;
 }

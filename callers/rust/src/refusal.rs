@@ -91,6 +91,7 @@ refusals! {
         12 ARGUMENT_COUNT ArgumentCount "the line does not have as many arguments as its instruction takes"
         13 ARGUMENT_FORM ArgumentForm "an argument of the line is not an argument at all, or has a form that its place does not allow"
         14 ARGUMENT_RANGE ArgumentRange "an argument of the line is a register not below N, a cell not below B, or a number outside -M to M - 1"
+        19 SAME_TARGET SameTarget "the first and the third argument of the line, both of which it writes, are one register"
     }
 }
 
@@ -127,6 +128,7 @@ mod tests {
         assert_eq!(accepted(0, 0), Ok(()));
         assert_eq!(accepted(17, 0), Err(Refusal::Cycles));
         assert_eq!(accepted(12, 4), Err(Refusal::ArgumentCount { line: 4 }));
+        assert_eq!(accepted(19, 5), Err(Refusal::SameTarget { line: 5 }));
     }
 
     #[test]

@@ -143,6 +143,17 @@ fn a_faulty_line_is_named() {
 }
 
 #[test]
+fn boxes_and_loose_pieces() {
+    let text = b"IN R0\nIN R1\nDIVR R0 R1 R2\nOUT R2\nOUT R0\n";
+    let mut machine = Machine::new(PARAMETERS, text).unwrap();
+    let granted = machine.grant(51 + 51 + 31 + 51 + 51, b"-100 12").unwrap();
+    assert_eq!(granted.ending, Ending::Ended);
+    assert_eq!(granted.values, [-8, -4]);
+    let refusal = Machine::new(PARAMETERS, b"NOP\nDIVR R0 R1 R00\n").unwrap_err();
+    assert_eq!(refusal, Refusal::SameTarget { line: 1 });
+}
+
+#[test]
 fn a_machine_goes_on_from_its_parts() {
     let mut machine = machine();
     machine.grant(300, INPUT).unwrap();

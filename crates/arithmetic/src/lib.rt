@@ -1,4 +1,4 @@
-// NEG, ABS, ADD, SUB, MUL, DIV, MOD, INC and DEC. NEG and DIV work in 32 bits, the others and every range test in 64.
+// NEG, ABS, ADD, SUB, MUL, DIV, MOD, INC, DEC and DIVR. NEG and DIV work in 32 bits, the others and every range test in 64.
 // m is document 01's M, a number with the clause IsLimit. No type of it: `Limits` asks for parameters that fit, which is more, and of one of M alone each
 // `ensures` and definition would have to take the number out again. Nor of Within: values are read from lent slices as they stand, and such a type would
 // have to hold M beside each. No one function over a closure for ADD, SUB and MUL: `checked` is what they share, and what is left of each is its operator.
@@ -8,7 +8,7 @@ ghost use Rattle.std.specs.Prelude.{◌≡◌, ◌≢◌, ◌≤◌, Err, IfOk, 
 ghost use Rattle.std.specs.Int.Signed.{mag};
 ghost use Rattle.model.specs.Arithmetic.{divide, remainder};
 ghost use Rattle.bounds.specs.Bounds.{IsLimit, Within};
-ghost use Rattle.arithmetic.specs.Answers.{code_number_of, answer_of, IsChecked};
+ghost use Rattle.arithmetic.specs.Answers.{code_number_of, answer_of, quotient_of, IsChecked, HasRemainder};
 
 use bounds::ranges::in_range_wide;
 
@@ -108,4 +108,27 @@ pub fn modulo(x: i32, y: i32) -> Result<i32, ReturnCode>
         return Err(ReturnCode::DivisorZero);
     }
     Ok((i64::from(x) % i64::from(y)) as i32)
+}
+
+// The two values of a DIVR.
+#[derive(Clone, Copy, Debug, PartialEq, Eq)]
+pub struct Division {
+    pub quotient: i32,
+    pub remainder: i32,
+}
+
+// DIVR: the remainder, which fails where the divisor is 0, and the quotient as DIV has it.
+pub fn div_rem(m: u32, x: i32, y: i32) -> Result<Division, ReturnCode>
+    requires limit { IsLimit m }
+    requires within { Within m x }
+    ensures quotient { quotient_of result ≡ divide m x y }
+    ensures remainder { IfOk result (HasRemainder x y) }
+    ensures reason { result ≢ Err ReturnCode.NotBoolean }
+{
+    let remainder = modulo(x, y)?;
+    let quotient = div(m, x, y)?;
+    Ok(Division {
+        quotient,
+        remainder,
+    })
 }

@@ -2,7 +2,7 @@
 #![tactic(auto)]
 
 ghost use Rattle.std.specs.Prelude.{◌≡◌, ◌<◌, ◌≤◌, [], ◌∷◌, length, replicate, pos};
-ghost use Rattle.plans.specs.Plans.{value_out, registers_after, cells_after, values_of};
+ghost use Rattle.plans.specs.Plans.{value_out, register_written, cell_written, registers_first, cells_first, registers_after, cells_after, Paired, values_of};
 ghost use Rattle.effects.specs.Effects.{output_after, Indexed};
 
 use model::words::{FIRST_DIRECT, FIRST_REGISTER};
@@ -52,10 +52,9 @@ fn output_value(value: i32, out: &mut [i32])
 // A value to the register or data cell that a word names. For a word of another kind the difference, which wraps, is past every length.
 // Tried: `get_mut`. Of the slice behind what it lends only the length is known, so that the proof does not close.
 fn write(to: u32, value: i32, registers: &mut [i32], cells: &mut [i32])
-    requires value_out_lt_to { value_out < to }
-    requires indexed { Indexed registers.old cells.old }
-    ensures registers_after { registers.new ≡ registers_after to value registers.old }
-    ensures cells_after { cells.new ≡ cells_after to value cells.old }
+    requires { Indexed registers.old cells.old }
+    ensures registers_after { registers.new ≡ register_written to value registers.old }
+    ensures cells_after { cells.new ≡ cell_written to value cells.old }
 {
     let register = to.wrapping_sub(FIRST_REGISTER) as usize;
     let cell = to.wrapping_sub(FIRST_DIRECT) as usize;
@@ -71,8 +70,8 @@ fn write(to: u32, value: i32, registers: &mut [i32], cells: &mut [i32])
 fn apply_other(to: u32, value: i32, registers: &mut [i32], cells: &mut [i32], out: &mut [i32])
     requires to_le_value_out { to ≤ value_out }
     requires cells_in_bounds { length (values_of to value registers.old cells.old) ≤ length out.old }
-    ensures registers_after { registers.new ≡ registers_after to value registers.old }
-    ensures cells_after { cells.new ≡ cells_after to value cells.old }
+    ensures registers_after { registers.new ≡ registers_first to value registers.old }
+    ensures cells_after { cells.new ≡ cells_first to value cells.old }
     ensures out_after { out.new ≡ output_after (values_of to value registers.old cells.old) out.old }
 {
     match to {
@@ -85,17 +84,22 @@ fn apply_other(to: u32, value: i32, registers: &mut [i32], cells: &mut [i32], ou
     }
 }
 
-// A plan carried out: the registers, the data cells, and the values at the front of the output.
+// A plan carried out: the registers, the data cells, and the values at the front of the output. Behind the first write, so that the other plans do not
+// wait for the test of a second one.
 pub fn apply(plan: Plan, registers: &mut [i32], cells: &mut [i32], out: &mut [i32])
     requires indexed { Indexed registers.old cells.old }
     requires cells_in_bounds { length (values_of plan.to plan.value registers.old cells.old) ≤ length out.old }
-    ensures registers_after { registers.new ≡ registers_after plan.to plan.value registers.old }
-    ensures cells_after { cells.new ≡ cells_after plan.to plan.value cells.old }
+    requires paired { Paired plan }
+    ensures registers_after { registers.new ≡ registers_after plan registers.old }
+    ensures cells_after { cells.new ≡ cells_after plan cells.old }
     ensures out_after { out.new ≡ output_after (values_of plan.to plan.value registers.old cells.old) out.old }
 {
     let to = plan.to;
     if Plan::OUTPUT < to {
-        write(to, plan.value, registers, cells)
+        write(to, plan.value, registers, cells);
+        if plan.second_to != Plan::NOWHERE {
+            write(plan.second_to, plan.second_value, registers, cells)
+        }
     } else if to != Plan::NOWHERE {
         apply_other(to, plan.value, registers, cells, out)
     }

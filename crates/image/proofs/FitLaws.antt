@@ -1,7 +1,7 @@
 -- The test of a cell's words, as the code makes it. Assumes nothing.
 use Prim.Native.Nat.{ℕ, ◌+◌, ◌*◌, ◌/◌, ◌%◌, ◌≤◌, ◌<◌}
-use mathlib.Core.Path.{◌≡◌, refl, sym, ◌∙◌}
-use mathlib.Core.Bool.{Bool, true, false, ◌&&◌, and-true}
+use mathlib.Core.Path.{◌≡◌, refl, sym, ap, ◌∙◌}
+use mathlib.Core.Bool.{Bool, true, false, not, ◌&&◌, and-true}
 use mathlib.Core.List.{List, [], ◌∷◌}
 use native.Mathlib.Omega.{arith}
 use lib.Dec.{eqb, leb, ltb}
@@ -11,7 +11,7 @@ use Rattle.model.specs.declared.Parameters.{Parameters}
 use Rattle.model.specs.Parameters.{between, limit, in_range, Fit}
 use Rattle.model.specs.Words.{register, direct, literal, Cell, kind_of, register_kind, direct_kind, number_kind, content_of, iar_number, shr_number, number_of}
 use Rattle.model.specs.Instructions.{instruction_count, row_of}
-use Rattle.model.specs.Load.{allows, is_within}
+use Rattle.model.specs.Load.{allows, is_within, one_target}
 use Rattle.model.specs.Images.{register_fits, word_fits, words_fit, cell_fits}
 use Rattle.model.proofs.Fits.{both, is-between, limits}
 use Rattle.bounds.specs.Bounds.{IsLimit}
@@ -97,9 +97,12 @@ module _ (p : Parameters) (c : Cell) where
   unfolding cell_fits
   high_head h = rw (le-leb 1 c.head (omega arith), lt-leb c.head instruction_count h)
 
-  pub cell-between : 1 ≤ c.head → c.head ≤ instruction_count → cell_fits p c ≡ argument_words_fit p (packed (row_of c.head).forms) c.first c.second c.third
+  -- One that is: what the arguments' test answers, and 19.
+  pub cell-between : 1 ≤ c.head → c.head ≤ instruction_count →
+      {fit : Bool} → fit ≡ argument_words_fit p (packed (row_of c.head).forms) c.first c.second c.third → (fit && not (one_target c)) ≡ cell_fits p c
   unfolding cell_fits
-  cell-between l h =
+  cell-between l h e =
       let fs = (row_of c.head).forms in
       let k = both (leb (length fs) 3) (are_packed fs) (rows-packable c.head) in
-      rw (le-leb 1 c.head l, le-leb c.head instruction_count h) (words-fit p c.first c.second c.third fs (leb-true (length fs) 3 k.0) k.1)
+      rw (le-leb 1 c.head l, le-leb c.head instruction_count h)
+      (ap (λ (b : Bool). b && not (one_target c)) (e ∙ sym (words-fit p c.first c.second c.third fs (leb-true (length fs) 3 k.0) k.1)))

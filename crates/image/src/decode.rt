@@ -2,10 +2,11 @@
 ghost use Rattle.std.specs.Prelude.{◌≡◌, ◌≤◌, length};
 ghost use Rattle.model.specs.Words.{cell_of};
 ghost use Rattle.model.specs.Images.{register_fits, word_fits, cell_fits};
+ghost use Rattle.model.specs.Load.{one_target};
 ghost use Rattle.image.specs.Decode.{instruction_of, cell_from, argument_word_fits, argument_words_fit, decoded_of};
 
 use crate::forms::{
-    FormTable, INSTRUCTIONS, allows_direct, allows_number, allows_register, allows_special,
+    DIVR, FormTable, INSTRUCTIONS, allows_direct, allows_number, allows_register, allows_special,
 };
 use crate::kinds::Kind;
 use crate::words::{content, kind, number};
@@ -98,13 +99,20 @@ fn arguments_fit(limits: Limits, forms: u32, i: Instruction) -> bool
         && argument_word_fits(limits, forms / 256, i.third)
 }
 
-// An instruction's number, and arguments as its row has them.
+// A DIVR that would write both of its values to one register.
+pub fn one_target(i: Instruction) -> bool
+    ensures { result ≡ one_target (cell_from i) }
+{
+    i.number == DIVR && i.first == i.third
+}
+
+// An instruction's number, arguments as its row has them, and no two targets in one register.
 #[tactic(auto, using(crate::proofs::FitLaws::low_head, crate::proofs::FitLaws::high_head))]
 fn cell_fits(limits: Limits, forms: &FormTable, i: Instruction) -> bool
     ensures { result ≡ cell_fits limits.parameters (cell_from i) }
 {
     match i.number {
-        1..=INSTRUCTIONS => arguments_fit(limits, forms.forms_of(i.number), i),
+        1..=INSTRUCTIONS => arguments_fit(limits, forms.forms_of(i.number), i) && !one_target(i),
         _ => false,
     }
 }

@@ -6,10 +6,13 @@ ghost use Rattle.model.specs.Words.{register, special, direct, literal};
 ghost use Rattle.image.specs.Forms.{packed, form_table};
 
 // How many instructions there are.
-pub const INSTRUCTIONS: u32 = 54;
+pub const INSTRUCTIONS: u32 = 55;
 
 // The number of NOP, which a line without words is.
 pub const NOP: u32 = 44;
+
+// The number of DIVR.
+pub const DIVR: u32 = 55;
 
 // By number, from 1 on: the form of the first argument, 16 times that of the second and 256 times that of the third. An absent one has 0.
 // One number a row: three bytes would be widened at each use, and behind a faulty argument the forms left would be counted byte by byte.
@@ -18,7 +21,7 @@ const FORMS: [u32; INSTRUCTIONS as usize] = [
     0x133, 0x133, 0x133, 0x133, 0x133, 0x013, 0x013, 0x133, 0x133, 0x133, 0x133, 0x133, 0x081,
     0x081, 0x133, 0x133, 0x133, 0x133, 0x133, 0x133, 0x00B, 0x03B, 0x03B, 0x33B, 0x33B, 0x33B,
     0x33B, 0x33B, 0x33B, 0x000, 0x000, 0x013, 0x133, 0x133, 0x133, 0x133, 0x133, 0x001, 0x001,
-    0x001, 0x001,
+    0x001, 0x001, 0x131,
 ];
 
 // The table, which a call makes once and lends.

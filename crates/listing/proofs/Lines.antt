@@ -1,7 +1,7 @@
 -- A cell that fits is read back from its line, and a line that is accepted gives a cell that fits. Assumes nothing.
 use Prim.Native.Nat.{ℕ, zero, suc, ◌≤◌}
 use mathlib.Core.Path.{◌≡◌, refl, sym, ap, ◌∙◌}
-use mathlib.Core.Bool.{Bool, true, false}
+use mathlib.Core.Bool.{Bool, true, false, not, cond}
 use mathlib.Core.List.{List, [], ◌∷◌, ◌++◌, map, append_assoc, append-nil}
 use native.Mathlib.Omega.{arith}
 use lib.Dec.{eqb}
@@ -11,9 +11,10 @@ use Rattle.model.specs.declared.Parameters.{Parameters}
 use Rattle.model.specs.Parameters.{between}
 use Rattle.model.specs.Words.{Cell, cell_with, is_empty}
 use Rattle.model.specs.Instructions.{rows, nop_number, row_of}
-use Rattle.model.specs.Load.{lookup, argument, Checked, fine, fault, checked_argument, arguments_from, headed, line_cell, line_of}
+use Rattle.model.specs.Load.{lookup, argument, Checked, fine, fault, checked_argument, arguments_from, one_target, unless_one_target, headed, line_cell, line_of}
 use Rattle.model.specs.Images.{word_fits, words_fit, cell_fits}
-use Rattle.model.proofs.Fits.{both, and_both, is-between, Limits}
+use Rattle.model.proofs.Cells.{fits-number, fits-words, fits-targets}
+use Rattle.model.proofs.Fits.{both, and_both, Limits}
 use Rattle.listing.specs.Listing.{argument_of, argument_text, instruction_words, spaced}
 use Rattle.listing.proofs.Bytes.{are_words, words_back}
 use Rattle.model.proofs.Rows.{lookup-number}
@@ -89,18 +90,18 @@ module _ (p : Parameters) where
   good-line n w ws e l h = search rules
 
   line-cell : (c : Cell) → cell_fits p c ≡ true → line_cell p (instruction_words c) ≡ fine c
-  unfolding cell_fits
   line-cell c h =
       let forms = (row_of c.head).forms in
       let ws = c.first ∷ c.second ∷ c.third ∷ [] in
-      let f = both (between 1 (length rows) c.head) (words_fit p forms ws) h in
-      let n = is-between 1 (length rows) c.head f.0 in
-      let at : (i : ℕ) → get_or (take (length forms) ws) i 0 ≡ get_or ws i 0 = λ i. absent forms ws i f.1 in
+      let f = fits-words p c h in
+      let n = fits-number p c h in
+      let at : (i : ℕ) → get_or (take (length forms) ws) i 0 ≡ get_or ws i 0 = λ i. absent forms ws i f in
       let name = name_back c.head n.0 n.1 in
-      let count = arguments-count forms ws f.1 in
+      let count = arguments-count forms ws f in
       good-line c.head (row_of c.head).name (map text (take (length forms) ws)) name n.0 count
-      ∙ ap (headed c.head) (arguments-back forms ws [] f.1)
-      ∙ ap fine (same-cell c (take (length forms) ws) (at 0) (at 1) (at 2))
+      ∙ ap (headed c.head) (arguments-back forms ws [] f)
+      ∙ ap unless_one_target (same-cell c (take (length forms) ws) (at 0) (at 1) (at 2))
+      ∙ ap (λ (b : Bool). cond b (fault 19) (fine c)) (fits-targets p c h)
 
   -- Its line, read back.
   pub cell-back : (c : Cell) → cell_fits p c ≡ true → line_of p (spaced (instruction_words c)) ≡ fine c
@@ -133,11 +134,12 @@ module _ (p : Parameters) where
       let k = both (word_fits p f x) (words_fit p fs xs) h in
       and_both k.0 (padded-fits n fs xs (omega arith) k.1)
 
-  cell-fits : (n : ℕ) (xs : List ℕ) → 1 ≤ n → n ≤ length rows → words_fit p (row_of n).forms xs ≡ true → cell_fits p (cell_with n xs) ≡ true
+  cell-fits : (n : ℕ) (xs : List ℕ) → 1 ≤ n → n ≤ length rows → words_fit p (row_of n).forms xs ≡ true → one_target (cell_with n xs) ≡ false →
+      cell_fits p (cell_with n xs) ≡ true
   unfolding cell_fits
-  cell-fits n xs l h f =
+  cell-fits n xs l h f apart =
       let k = padded-fits 3 (row_of n).forms xs (three-forms n) f in
-      and_both (and_both (le-leb 1 n l) (le-leb n (length rows) h)) (rw (three-padded xs) at k)
+      and_both (and_both (le-leb 1 n l) (le-leb n (length rows) h)) (and_both (rw (three-padded xs) at k) (ap not apart))
 
   -- "A line without words is NOP."
   nop-fits : cell_fits p (cell_with nop_number []) ≡ true
@@ -167,11 +169,15 @@ module _ (p : Parameters) where
 
     headed-fits : (n : ℕ) → 1 ≤ n → n ≤ length rows → (o : Checked (List ℕ)) → Reads (row_of n).forms [] o → (c : Cell) → headed n o ≡ fine c →
         cell_fits p c ≡ true
-    headed-fits n l h (fine ys) r c e =
-        let k = r ys refl in
-        let q : cell_with n ys ≡ c = cc in
-        let f : words_fit p (row_of n).forms ys ≡ true = rw k.whole k.fit in
-        rw q at (cell-fits n ys l h f)
+    headed-fits n l h (fine ys) r c e = go (one_target (cell_with n ys)) refl e
+      where
+        go : (b : Bool) → one_target (cell_with n ys) ≡ b → cond b (fault 19) (fine (cell_with n ys)) ≡ fine c → cell_fits p c ≡ true
+        go true q e = cc
+        go false q e =
+            let k = r ys refl in
+            let is : cell_with n ys ≡ c = cc in
+            let f : words_fit p (row_of n).forms ys ≡ true = rw k.whole k.fit in
+            rw is at (cell-fits n ys l h f q)
     headed-fits n l h (fault k) r c e = cc
 
     -- What a line is accepted as fits.

@@ -14,7 +14,7 @@ use Rattle.model.specs.declared.Parameters.{Parameters}
 use Rattle.model.specs.Parameters.{between}
 use Rattle.model.specs.Words.{Cell, cell_with}
 use Rattle.model.specs.Instructions.{nop_number, row_of}
-use Rattle.model.specs.Load.{Checked, fine, fault, argument, checked_argument, arguments_from, headed, lookup, line_cell}
+use Rattle.model.specs.Load.{Checked, fine, fault, argument, checked_argument, arguments_from, unless_one_target, headed, lookup, line_cell}
 use Rattle.model.proofs.Fits.{both, is-between}
 use Rattle.image.specs.Forms.{packed}
 use Rattle.image.proofs.FitLaws.{are_packed, rows-packable}
@@ -91,7 +91,7 @@ module _ (p : Parameters) (n : ℕ) (xs : List ℕ) where
   unfolding counted
   counted_none f fs = simp (ne_eqb 0 (suc (length fs)) (λ e. absurd (omega arith)))
 
-  counted-all : counted p n xs [] [] ≡ fine (cell_with n xs)
+  counted-all : counted p n xs [] [] ≡ unless_one_target (cell_with n xs)
   unfolding counted arguments_from
   counted-all = refl
 
@@ -209,7 +209,7 @@ module _ (p : Parameters) (n : ℕ) (ws : List (List ℕ)) where
     none l = let m : 3 - i ≡ 0 = omega arith in let few : rest < 16 ^ 0 = rw m at s.few in omega (arith, few)
 
     pub all_read : length arguments ≡ 3 → i ≡ 3 → left ≡ [] →
-        counted p n [] (row_of n).forms ws ≡ fine (record { head = n; first = get_or arguments 0 0; second = get_or arguments 1 0; third = get_or arguments 2 0 })
+        counted p n [] (row_of n).forms ws ≡ unless_one_target (cell_with n arguments)
     all_read h l e =
         let all : take i arguments ≡ arguments = take_all i arguments (omega (arith, h, l)) in
         s.same ∙ rw (e, none (omega (arith, l)), unpacked_none, all) (counted-all p n arguments)

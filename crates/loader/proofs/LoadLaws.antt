@@ -38,6 +38,7 @@ has-number refusal.Record e = absurd (omega arith)
 has-number refusal.InputLength e = absurd (omega arith)
 has-number refusal.Cycles e = absurd (omega arith)
 has-number refusal.DecimalLength e = absurd (omega arith)
+has-number refusal.SameTarget e = absurd (omega arith)
 
 module _ (p : Parameters) (text old : List ℕ) where
   -- A reply with the paper's numbers.

@@ -188,7 +188,7 @@ long-word : (w : List ℕ) → 8 ≤ length w →
     (cond (same_word w (bytes "CLEAR_DATA_MEM")) 2 (cond (same_word w (bytes "DUMP_REG")) 3 (cond (same_word w (bytes "DUMP_DATA_MEM")) 4 0)))
 unfolding names lookup_from
 long-word w h =
-    let short : lookup_from 5 w (drop 4 names) ≡ 0 = other-lengths (λ (n : ℕ). leb n 7) 50 5 w (drop 4 names) refl (lt-leb (length w) 7 h) in
+    let short : lookup_from 5 w (drop 4 names) ≡ 0 = other-lengths (λ (n : ℕ). leb n 7) 51 5 w (drop 4 names) refl (lt-leb (length w) 7 h) in
     name_choice 1 w _ (drop 1 names)
     ∙ ap (cond (same_word w (bytes "CLEAR_REG")) 1)
     (name_choice 2 w _ (drop 2 names)
@@ -210,7 +210,7 @@ pub long-found : (w : List ℕ) → 8 ≤ length w →
     Finds (option_map (λ (i : ℕ). 1 + i) (position (same_word w) (bytes "CLEAR_REG" ∷ bytes "CLEAR_DATA_MEM" ∷ bytes "DUMP_REG" ∷ bytes "DUMP_DATA_MEM" ∷ []))) (lookup w)
 long-found w h = rw (long-word w h) (first-of _ _ _ _ _ refl)
 
-pub table-length : length key_table ≡ 50
+pub table-length : length key_table ≡ 51
 unfolding key_table names
 table-length = refl
 

@@ -1,7 +1,7 @@
 // A line of a text: the instruction, the count of its arguments, and each argument.
 ghost use Rattle.std.specs.Prelude.{◌≡◌, ℕ, ◌/◌, ◌<◌, List, cond, [], eqb, length};
 ghost use Rattle.model.specs.Instructions.{row_of};
-ghost use Rattle.model.specs.Load.{line_of};
+ghost use Rattle.model.specs.Load.{line_of, unless_one_target};
 ghost use Rattle.model.specs.Replies.{refusal_number_of};
 ghost use Rattle.image.specs.Decode.{cell_from};
 ghost use Rattle.image.specs.Forms.{packed};
@@ -12,7 +12,7 @@ ghost use Rattle.text.specs.Words.{words_left};
 use crate::arguments::argument_word;
 use crate::tables::Tables;
 use bounds::limits::Limits;
-use image::decode::Instruction;
+use image::decode::{Instruction, one_target};
 use image::forms::NOP;
 use model::Refusal;
 use text::words::Words;
@@ -58,6 +58,17 @@ fn next_argument(words: &mut Words, forms: u32, limits: Limits) -> Result<u32, R
     }
 }
 
+// An instruction, unless it would write both of its values to one register.
+fn unless_one_target(i: Instruction) -> Result<Instruction, Refusal>
+    ensures { checked_of cell_from result ≡ unless_one_target (cell_from i) }
+{
+    if one_target(i) {
+        Err(Refusal::SameTarget)
+    } else {
+        Ok(i)
+    }
+}
+
 // The arguments of an instruction, each at its form.
 fn parse_arguments(
     mut words: Words,
@@ -76,7 +87,7 @@ fn parse_arguments(
     }
     let [first, second, third] = arguments;
     match words.next() {
-        None => Ok(Instruction {
+        None => unless_one_target(Instruction {
             number,
             first,
             second,

@@ -7,7 +7,7 @@ ghost use Rattle.loader.specs.Keys.{key_of, key_table, Slots, place_from, Finds}
 use text::bytes::upper;
 
 // The keys of the names from number 5, IN, on: each name's bytes in hexadecimal, behind a 1. The four names before it are longer.
-const KEYS: [u64; 50] = [
+const KEYS: [u64; 51] = [
     0x1494E,
     0x14F5554,
     0x14D4F56,
@@ -58,14 +58,15 @@ const KEYS: [u64; 50] = [
     0x141534C,
     0x1525352,
     0x1415352,
+    0x144495652,
 ];
 
 // The place of each key among the keys, at the remainder that `find_key` takes of it; no two keys have the same.
 const SLOTS: [u8; 119] = [
-    0, 43, 0, 0, 26, 0, 37, 47, 21, 0, 0, 0, 0, 49, 0, 0, 0, 0, 17, 0, 0, 35, 0, 0, 0, 10, 0, 0, 9,
-    0, 0, 0, 0, 0, 0, 0, 12, 31, 0, 46, 0, 0, 39, 0, 13, 48, 8, 0, 11, 0, 0, 30, 4, 19, 0, 0, 0, 0,
-    0, 0, 0, 0, 0, 0, 0, 5, 33, 15, 0, 0, 0, 0, 18, 0, 0, 29, 0, 20, 0, 27, 0, 22, 0, 0, 23, 0, 0,
-    0, 16, 0, 0, 14, 42, 0, 25, 2, 36, 24, 7, 44, 41, 32, 0, 0, 38, 1, 0, 3, 28, 0, 0, 34, 6, 0,
+    0, 43, 0, 0, 26, 0, 37, 47, 21, 0, 50, 0, 0, 49, 0, 0, 0, 0, 17, 0, 0, 35, 0, 0, 0, 10, 0, 0,
+    9, 0, 0, 0, 0, 0, 0, 0, 12, 31, 0, 46, 0, 0, 39, 0, 13, 48, 8, 0, 11, 0, 0, 30, 4, 19, 0, 0, 0,
+    0, 0, 0, 0, 0, 0, 0, 0, 5, 33, 15, 0, 0, 0, 0, 18, 0, 0, 29, 0, 20, 0, 27, 0, 22, 0, 0, 23, 0,
+    0, 0, 16, 0, 0, 14, 42, 0, 25, 2, 36, 24, 7, 44, 41, 32, 0, 0, 38, 1, 0, 3, 28, 0, 0, 34, 6, 0,
     45, 0, 40, 0, 0,
 ];
 
@@ -116,7 +117,7 @@ fn find_long(w: &[u8]) -> Option<u32>
 // The names of the instructions, which a call makes once and lends. Arrays and no map: there is no heap, and one comparison at a key's remainder finds a name.
 #[derive(Drop)]
 pub struct NameTable {
-    keys: [u64; 50],
+    keys: [u64; 51],
     slots: [u8; 119],
     ghost keys_value: { keys ≡ key_table },
     ghost slots_value: { Slots slots },

@@ -1,7 +1,7 @@
 -- The cells of an image that fits, and the literals in them. Assumes nothing.
-use Prim.Native.Nat.{ℕ, zero, suc, ◌+◌, ◌*◌, ◌<◌}
+use Prim.Native.Nat.{ℕ, zero, suc, ◌+◌, ◌*◌, ◌≤◌, ◌<◌}
 use mathlib.Core.Path.{◌≡◌, refl, sym, ap, ◌∙◌}
-use mathlib.Core.Bool.{Bool, true, false}
+use mathlib.Core.Bool.{Bool, true, false, not, ◌&&◌}
 use mathlib.Core.List.{List, [], ◌∷◌}
 use native.Mathlib.Omega.{arith}
 use lib.Dec.{eqb}
@@ -12,7 +12,7 @@ use Rattle.model.specs.declared.Parameters.{Parameters}
 use Rattle.model.specs.Parameters.{between, limit, in_range}
 use Rattle.model.specs.Words.{Cell, cell_of, cell_at, is_empty, kind_of, content_of, number_of}
 use Rattle.model.specs.Instructions.{rows, row_of}
-use Rattle.model.specs.Load.{is_within}
+use Rattle.model.specs.Load.{is_within, one_target}
 use Rattle.model.specs.Images.{word_fits, words_fit, cell_fits, all_zero, cells_fit}
 use Rattle.model.proofs.Fits.{both, and_both, is-between}
 use Rattle.std.proofs.Common.{rules}
@@ -76,18 +76,36 @@ cell-fits p (suc t) ws (suc i) h l n = go (first_cell p t ws h) (cell-fits p t (
     go (zeros z) ih = let y = zero_empty (take 4 (drop (4 * suc i) ws)) (zero-take 4 _ (zero-drop (4 * suc i) ws z)) in cc
     go (full f g) ih = rw (next-cell ws i) (ih g (omega arith) (sym (ap is_empty (next-cell ws i)) ∙ n))
 
+not-true : (b : Bool) → not b ≡ true → b ≡ false
+not-true true h = sym h
+not-true false h = refl
+
+-- What a cell that fits has: an instruction's number, arguments by its row, and no two targets in one register.
+module _ (p : Parameters) (c : Cell) (h : cell_fits p c ≡ true) where
+  abbrev words : List ℕ
+  words = c.first ∷ c.second ∷ c.third ∷ []
+
+  parts : (between 1 (length rows) c.head ≡ true) × ((words_fit p (row_of c.head).forms words && not (one_target c)) ≡ true)
+  unfolding cell_fits
+  parts = both (between 1 (length rows) c.head) _ h
+
+  pub fits-number : (1 ≤ c.head) × (c.head ≤ length rows)
+  fits-number = is-between 1 (length rows) c.head parts.0
+
+  pub fits-words : words_fit p (row_of c.head).forms words ≡ true
+  fits-words = (both (words_fit p (row_of c.head).forms words) _ parts.1).0
+
+  pub fits-targets : one_target c ≡ false
+  fits-targets = not-true (one_target c) (both (words_fit p (row_of c.head).forms words) _ parts.1).1
+
 -- A cell whose head is 0 is empty.
 pub empty-head : (p : Parameters) (t : ℕ) (ws : List ℕ) (i : ℕ) → cells_fit p t ws ≡ true → i < t → (cell_at ws i).head ≡ 0 →
     is_empty (cell_at ws i) ≡ true
-unfolding cell_fits
 empty-head p t ws i h l e = go (is_empty (cell_at ws i)) refl
   where
     go : (b : Bool) → is_empty (cell_at ws i) ≡ b → b ≡ true
     go true q = refl
-    go false q =
-        let f = both (between 1 (length rows) (cell_at ws i).head) _ (cell-fits p t ws i h l q) in
-        let g = is-between 1 (length rows) (cell_at ws i).head f.0 in
-        absurd (omega arith)
+    go false q = absurd (omega (arith, fits-number p (cell_at ws i) (cell-fits p t ws i h l q)))
 
 -- LITERALS
 -- If this word is a literal, its value is in range.
@@ -115,9 +133,7 @@ words-readable p (f ∷ fs) (w ∷ ws) zero h = word-readable p f w (both (word_
 words-readable p (f ∷ fs) (w ∷ ws) (suc i) h = words-readable p fs ws i (both (word_fits p f w) (words_fit p fs ws) h).1
 
 pub cell-readable : (p : Parameters) (c : Cell) → cell_fits p c ≡ true → CellReadable p c
-unfolding cell_fits
 cell-readable p c h =
-    let ws = c.first ∷ c.second ∷ c.third ∷ [] in
-    let f = both (between 1 (length rows) c.head) (words_fit p (row_of c.head).forms ws) h in
-    let k = words-readable p (row_of c.head).forms ws in
-    record { first = k 0 f.1; second = k 1 f.1; third = k 2 f.1 }
+    let k = words-readable p (row_of c.head).forms (c.first ∷ c.second ∷ c.third ∷ []) in
+    let f = fits-words p c h in
+    record { first = k 0 f; second = k 1 f; third = k 2 f }

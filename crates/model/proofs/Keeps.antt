@@ -15,10 +15,10 @@ use Rattle.model.specs.Parameters.{Fit, limit, in_range, eq_z, is_boolean, is_tr
 use Rattle.model.specs.Words.{Cell, is_empty, kind_of, register_kind, direct_kind, number_kind, content_of, iar_number, ircr_number, shr_number, number_of}
 use Rattle.model.specs.Numbers.{is_blank, number}
 use Rattle.model.specs.Arithmetic.{Answer, value, code}
-use Rattle.model.specs.Instructions.{Operation, clear_registers, clear_cells, dump_registers, dump_cells, inputs, outputs, pushes, pops, skips, idles, writes, jumps, jumps_on}
+use Rattle.model.specs.Instructions.{Operation, clear_registers, clear_cells, dump_registers, dump_cells, inputs, outputs, pushes, pops, skips, idles, writes, writes_both, jumps, jumps_on}
 use Rattle.model.specs.Images.{image_fits}
 use Rattle.model.specs.Machine.{running}
-use Rattle.model.specs.Step.{Environment, State, fresh_state, with_iar, with_ircr, with_shr, with_place, with_registers, with_cells, register_value, value_of, store, argument_at, Effect, succeeds, fails, next, stores, jump_to, push, pop, blanks_of, token_of, input_number, input_answer, input, execute, settled, current_cell, current_operation, state_status, step}
+use Rattle.model.specs.Step.{Environment, State, fresh_state, with_iar, with_ircr, with_shr, with_place, with_registers, with_cells, register_value, value_of, store, argument_at, Effect, succeeds, fails, next, stores, stores_both, jump_to, push, pop, blanks_of, token_of, input_number, input_answer, input, execute, settled, current_cell, current_operation, state_status, step}
 use Rattle.model.specs.Calls.{all_in_range}
 use Rattle.model.proofs.Fits.{by_cond, Limits, limits, limit-low}
 use Rattle.model.proofs.Cells.{cell-fits, Readable, CellReadable, cell-readable}
@@ -171,6 +171,12 @@ module _ (e : Environment) (l : Limits e.parameters) (s : State) (g : Going e s)
   stores_preserves w (value v) h = next_preserves e l (store w v s) (store-going e l s g w v h)
   stores_preserves w (code k) h = h.1
 
+  stores_both_preserves : (w u : ℕ) (a : Answer) (z : ℤ) → Good (limit_of e) a → mag z < limit_of e → Preserves e (stores_both w u s a z)
+  stores_both_preserves w u (value v) z h k =
+      let stored = store-going e l s g w v h in
+      next_preserves e l (store u z (store w v s)) (store-going e l (store w v s) stored u z k)
+  stores_both_preserves w u (code c) z h k = h.1
+
   push_preserves : (w : ℕ) → Readable e.parameters w → Preserves e (push e.parameters w s)
   unfolding push
   push_preserves w r = by_cond (Preserves e) (eq_z (suc_ℤ s.shr) (pos e.parameters.s)) _ _ (λ h. omega arith) (λ h. go (sound h))
@@ -237,6 +243,12 @@ module _ (e : Environment) (l : Limits e.parameters) (s : State) (g : Going e s)
       let y = value-mag e l s g.sound c.second r.second in
       stores_preserves e l s g (argument_at to c) (f (limit_of e) (value_of s c.first) (value_of s c.second))
       (k (value_of s c.first) (value_of s c.second) x y)
+  execute_preserves (writes_both f h) c k r =
+      let x = value-mag e l s g.sound c.first r.first in
+      let y = value-mag e l s g.sound c.second r.second in
+      let good = k (value_of s c.first) (value_of s c.second) x y in
+      stores_both_preserves e l s g c.third c.first (f (limit_of e) (value_of s c.first) (value_of s c.second))
+      (h (value_of s c.first) (value_of s c.second)) good.0 good.1
   execute_preserves (jumps test) c k r =
       by_cond (Preserves e) (test (value_of s c.second) (value_of s c.third)) _ _ (λ h. jump_preserves e l s g (value_of s c.first))
       (λ h. next_preserves e l s g)

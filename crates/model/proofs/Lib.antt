@@ -6,6 +6,7 @@ pub mod Costs
 pub mod Cells
 pub mod Ranges
 pub mod Stack
+pub mod Division
 pub mod Deepest
 pub mod Keeps
 pub mod GrantKeeps

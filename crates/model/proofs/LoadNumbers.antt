@@ -11,9 +11,9 @@ use lib.ListN.{length}
 use Rattle.model.specs.declared.Parameters.{Parameters}
 use Rattle.model.specs.Load.{Accepted, Refused}
 use Rattle.model.specs.Parameters.{Check, refusal_of, parameter_checks}
-use Rattle.model.specs.Words.{Argument, argument_word, Cell}
+use Rattle.model.specs.Words.{Argument, argument_word, Cell, cell_with}
 use Rattle.model.specs.Instructions.{row_of}
-use Rattle.model.specs.Load.{allows, argument, arguments_from, Checked, fault, fine, first_fault, headed, is_within, line_cell, line_of, lines, lines_reply, load_checks, load_line, load_lines, LoadNumbers, load_numbers, load_refusal, load_reply, lookup, numbers_of_load, checked_argument, right_lines, text_checks, text_reply, words}
+use Rattle.model.specs.Load.{allows, argument, arguments_from, Checked, fault, fine, first_fault, headed, is_within, line_cell, line_of, lines, lines_reply, load_checks, load_line, load_lines, LoadNumbers, load_numbers, load_refusal, load_reply, lookup, numbers_of_load, one_target, checked_argument, right_lines, text_checks, text_reply, words}
 use Rattle.model.proofs.Fits.{by_cond, Numbered, all_fit, refusal-first, refusal-later, numbered_append, parameters-numbered}
 use Rattle.model.proofs.Refusals.{load-refused-first}
 use Rattle.std.proofs.Common.{rules}
@@ -43,7 +43,7 @@ module _ (p : Parameters) where
       go (fault k) h next = h
 
   headed-late : (n : ℕ) (o : Checked (List ℕ)) → Late o → Late (headed n o)
-  headed-late n (fine xs) h = tt
+  headed-late n (fine xs) h = by_cond Late (one_target (cell_with n xs)) (fault 19) (fine (cell_with n xs)) (λ e. omega arith) (λ e. tt)
   headed-late n (fault k) h = h
 
   -- The arguments' cell or their fault, as `line-late` meets it.

@@ -128,7 +128,7 @@ said (grants a b) = grants b b
 
 pub marks : List Mark
 marks =
-    words (instruction_count ∷ []) (54 ∷ [])
+    words (instruction_count ∷ []) (55 ∷ [])
     ∷ words (first_cell "SET R0 13") (0x8 ∷ 0x40000000 ∷ 0xC000000D ∷ 0 ∷ [])
     ∷ words (first_cell "SET R0 -10") (0x8 ∷ 0x40000000 ∷ 0xFFFFFFF6 ∷ 0 ∷ [])
     ∷ values (registers "SET R0 13\nSET R1 -10\nDIV R0 R1 R1") (pos 13 ∷ negsuc 0 ∷ [])
@@ -201,9 +201,21 @@ decisions =
     ∷ values (figured (pos 1)) (pos 0 ∷ pos 1 ∷ [])
     ∷ values (figured (pos 3)) (pos 0 ∷ pos 3 ∷ [])
     ∷ values (figured (pos 4)) (pos 15 ∷ pos 4 ∷ [])
+    -- DIVR: quotient and remainder; sources are read first; its codes are DIV's, with neither target changed; its number; ARG1 and ARG3 apart, behind 13 and 14
+    ∷ values (registers "SET R0 13\nSET R1 -10\nDIVR R0 R1 R1") (pos 3 ∷ negsuc 0 ∷ [])
+    ∷ values (registers "SET R0 -13\nSET R1 5\nDIVR R0 R0 R1") (pos 0 ∷ pos 1 ∷ [])
+    ∷ values (registers "SET R0 7\nDIVR R0 R1 R1") (pos 7 ∷ pos 0 ∷ [])
+    ∷ words (ends "SET R0 7\nDIVR R0 R1 R1") (2 ∷ 1 ∷ 42 ∷ [])
+    ∷ words (ends "SET R0 -128\nSET R1 -1\nDIVR R0 R1 R1") (1 ∷ 2 ∷ 53 ∷ [])
+    ∷ words (first_cell "divr R0 IRCR R1") (0x37 ∷ 0x40000000 ∷ 0x40000101 ∷ 0x40000001 ∷ [])
+    ∷ words (loads "NOP\nDIVR R1 R0 R01") (19 ∷ 1 ∷ [])
+    ∷ words (loads "DIVR R2 R0 R2") (14 ∷ 0 ∷ [])
+    ∷ words (loads "DIVR SHR R0 SHR") (13 ∷ 0 ∷ [])
+    ∷ words (starts (0x37 ∷ 0x40000000 ∷ 0x40000000 ∷ 0x40000001 ∷ replicate 20 0)) (0 ∷ [])
+    ∷ words (starts (0x37 ∷ 0x40000001 ∷ 0x40000000 ∷ 0x40000001 ∷ replicate 20 0)) (10 ∷ [])
     -- a head that is no instruction's number counts as NOP
     ∷ grants (headed 0) (bytes "NOP" ∷ [] ∷ (1 ∷ 0 ∷ []) ∷ [])
-    ∷ grants (headed 55) (bytes "NOP" ∷ [] ∷ (1 ∷ 0 ∷ []) ∷ [])
+    ∷ grants (headed 56) (bytes "NOP" ∷ [] ∷ (1 ∷ 0 ∷ []) ∷ [])
     ∷ []
 
 pub decided_points : map computed decisions ≡ map said decisions

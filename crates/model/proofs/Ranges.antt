@@ -9,11 +9,11 @@ use lib.Bits.{bit_and, bit_or, bit_xor, and_lt, or_lt, xor_lt}
 use lib.Dec.{leb, ltb}
 use lib.IntN.{ℤ, pos, negsuc}
 use lib.ListN.{get_or, set, replicate}
-use lib.Signed.{mag, le_z, lt_z}
+use lib.Signed.{mag, mag_rem, le_z, lt_z}
 use borrow.Author.Tests.{ltb-true, lt-ltb, leb-true, le-leb}
 use Rattle.model.specs.Parameters.{in_range, eq_z, boolean_of, limit}
 use Rattle.model.specs.Arithmetic.{Answer, value, code, checked, divide, remainder, negation, logic, bits_of, signed_of, inverted, bitwise, shift_left, shift_right, shift_right_signed}
-use Rattle.model.specs.Instructions.{Operation, clear_registers, clear_cells, dump_registers, dump_cells, inputs, outputs, pushes, pops, skips, idles, writes, jumps, jumps_on, Row, rows, row_of}
+use Rattle.model.specs.Instructions.{Operation, clear_registers, clear_cells, dump_registers, dump_cells, inputs, outputs, pushes, pops, skips, idles, writes, writes_both, jumps, jumps_on, Row, rows, row_of}
 use Rattle.model.specs.Calls.{all_in_range}
 use Rattle.model.proofs.Fits.{both, and_both, by_cond, limit-low, limit-double}
 use Rattle.std.proofs.Common.{rules}
@@ -109,6 +109,7 @@ WritesRange m pops = Unit {0}
 WritesRange m skips = Unit {0}
 WritesRange m idles = Unit {0}
 WritesRange m (writes to f) = (x y : ℤ) → mag x < m → mag y < m → Good m (f m x y)
+WritesRange m (writes_both f g) = (x y : ℤ) → mag x < m → mag y < m → Good m (f m x y) × (mag (g x y) < m)
 WritesRange m (jumps test) = Unit {0}
 WritesRange m (jumps_on b) = Unit {0}
 
@@ -180,6 +181,8 @@ module _ (k m : ℕ) (one : 1 ≤ m) (two : 2 * m ≡ 2 ^ k) where
       then (λ x y h l. shift-left-mag m one x)
       then (λ x y h l. shift_right-mag m one x h)
       then (λ x y h l. shift_right_signed-mag m one x h)
+      -- DIVR
+      then (λ x y h l. (divide-good m one x y, omega (arith, mag_rem x y)))
       then tt
 
 pub row-range : (k n : ℕ) → 8 ≤ k → WritesRange (limit k) (row_of n).operation

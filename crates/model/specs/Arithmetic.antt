@@ -1,6 +1,6 @@
 -- Document 01, "Instructions": what the operations make of values, with their return codes. m is M.
-use Rattle.std.specs.Prelude.{ℕ, suc, ◌+◌, ◌*◌, ◌-◌, ◌/◌, ◌%◌, Bool, not, ◌&&◌, cond, ltb, ℤ, pos, negsuc}
-use Rattle.std.specs.Int.Signed.{quot_z, rem_z}
+use Rattle.std.specs.Prelude.{ℕ, suc, ◌+◌, ◌*◌, ◌-◌, ◌/◌, ◌%◌, ◌<◌, ◌≡◌, Bool, not, ◌&&◌, cond, ltb, ℤ, pos, negsuc, nat_abs, ◌+ℤ◌, ◌*ℤ◌}
+use Rattle.std.specs.Int.Signed.{quot_z, rem_z, non_neg}
 use Rattle.model.specs.Parameters.{in_range, eq_z, boolean_of, is_true, is_boolean}
 
 -- A value, or a return code other than 0.
@@ -19,6 +19,13 @@ divide m x y = cond (eq_z y (pos 0)) (code 2) (checked m (quot_z x y))
 -- "MOD has the sign of the first number. Divisor 0 gives code 2. .. -M MOD -1 is 0."
 unfoldable pub remainder : (x y : ℤ) → Answer
 remainder x y = cond (eq_z y (pos 0)) (code 2) (value (rem_z x y))
+
+-- What request E3 says of a DIVR with code 0, of x by y: "Quotient times divisor plus remainder is the old ARG1, and the remainder is smaller in size
+-- than the divisor, with the sign of that old ARG1, or zero."
+pub record Divided (x y quotient remainder : ℤ) : Type 0 where
+  pub whole : quotient *ℤ y +ℤ remainder ≡ x
+  pub smaller : nat_abs remainder < nat_abs y
+  pub sign : ¬ (remainder ≡ pos 0) → non_neg remainder ≡ non_neg x
 
 -- 003: code 1 if "the value of register ARG1 did not represent a Boolean value".
 unfoldable pub negation : ℤ → Answer

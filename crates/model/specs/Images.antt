@@ -1,11 +1,11 @@
 -- Document 01, refusal 10: "an image that no text yields under the loading rules, refusal 7 disregarded".
-use Rattle.std.specs.Prelude.{ℕ, zero, suc, ◌<◌, ◌≡◌, Bool, true, false, ◌&&◌, cond, List, [], ◌∷◌, eqb, get_or, length, take, drop}
+use Rattle.std.specs.Prelude.{ℕ, zero, suc, ◌<◌, ◌≡◌, Bool, true, false, not, ◌&&◌, cond, List, [], ◌∷◌, eqb, get_or, length, take, drop}
 use Rattle.model.specs.declared.Parameters.{Parameters}
 use Rattle.model.specs.Load.{Accepted}
 use Rattle.model.specs.Parameters.{between}
 use Rattle.model.specs.Words.{Argument, register, special, direct, literal, Cell, cell_of, kind_of, register_kind, direct_kind, number_kind, content_of, iar_number, shr_number, number_of, is_empty}
 use Rattle.model.specs.Instructions.{instruction_count, row_of}
-use Rattle.model.specs.Load.{text_reply, image_of, allows, is_within}
+use Rattle.model.specs.Load.{text_reply, image_of, allows, is_within, one_target}
 
 -- A text, of any length, that is accepted under these parameters with this image.
 pub record Yields (p : Parameters) (text image : List ℕ) : Type 0 where
@@ -41,9 +41,11 @@ words_fit p [] (w ∷ ws) = eqb w 0 && words_fit p [] ws
 words_fit p (f ∷ fs) [] = false
 words_fit p (f ∷ fs) (w ∷ ws) = word_fits p f w && words_fit p fs ws
 
--- An instruction: its number, and its arguments by its row.
+-- An instruction: its number, its arguments by its row, and not 19 (request E3: "an image with such a cell gets 10").
 unfoldable pub cell_fits : Parameters → Cell → Bool
-cell_fits p c = between 1 instruction_count c.head && words_fit p (row_of c.head).forms (c.first ∷ c.second ∷ c.third ∷ [])
+cell_fits p c =
+    between 1 instruction_count c.head
+    && (words_fit p (row_of c.head).forms (c.first ∷ c.second ∷ c.third ∷ []) && not (one_target c))
 
 -- "only empty cells follow it"
 unfoldable pub all_zero : List ℕ → Bool

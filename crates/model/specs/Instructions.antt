@@ -1,9 +1,9 @@
--- Document 01, "Instructions" and "Costs": the 54 instructions as rows.
+-- Document 01, "Instructions" and "Costs": the 54 instructions as rows, and DIVR of request E3.
 use Rattle.std.specs.Prelude.{ℕ, zero, suc, ◌+◌, ◌*◌, Bool, true, false, not, ◌&&◌, ◌||◌, cond, List, [], ◌∷◌, eqb, ℤ, pos, neg_ℤ, nat_abs, ◌+ℤ◌, ◌-ℤ◌, ◌*ℤ◌, length, get_or}
 use Prim.Native.String.{String}
 use Rattle.std.specs.Bool.{xor}
 use Rattle.std.specs.Int.Bits.{bit_and, bit_or, bit_xor}
-use Rattle.std.specs.Int.Signed.{lt_z, le_z}
+use Rattle.std.specs.Int.Signed.{lt_z, le_z, rem_z}
 use Rattle.model.specs.declared.Parameters.{Parameters}
 use Rattle.model.specs.Parameters.{eq_z, boolean_of}
 use Rattle.model.specs.Words.{Cell, kind_of, direct_kind}
@@ -43,6 +43,8 @@ pub data Position : Type 0 where
 pub data Operation : Type 0 where
   clear_registers clear_cells dump_registers dump_cells inputs outputs pushes pops skips idles : Operation
   writes : Position → (ℕ → ℤ → ℤ → Answer) → Operation
+  -- to ARG3 as `writes third`, and a second value to ARG1
+  writes_both : (ℕ → ℤ → ℤ → Answer) → (ℤ → ℤ → ℤ) → Operation
   jumps : (ℤ → ℤ → Bool) → Operation
   jumps_on : Bool → Operation
 
@@ -151,15 +153,21 @@ rows =
     ∷ shift "ASL" shift_left
     ∷ shift "RSR" shift_right
     ∷ shift "ASR" shift_right_signed
+    -- Request E3: "DIVR, number 55, cost 31, reads ARG1 and ARG2, writes the quotient to ARG3 and the remainder to ARG1. .. Codes are those of DIV."
+    ∷ row "DIVR" (target ∷ source ∷ target ∷ []) (31 ∷ []) (writes_both divide rem_z)
     ∷ []
 
--- "Numbers run from 1 .. (54)".
+-- "Numbers run from 1 .. (54)"; 55 with DIVR.
 abbrev pub instruction_count : ℕ
 instruction_count = length rows
 
 -- The number of NOP, which a line without words is.
 abbrev pub nop_number : ℕ
 nop_number = 44
+
+-- The number of DIVR.
+abbrev pub divr_number : ℕ
+divr_number = 55
 
 -- The row of an instruction's number. A head that is none, which no fit image has, gets NOP's.
 unfoldable pub row_of : ℕ → Row

@@ -5,7 +5,7 @@ use Rattle.model.specs.declared.Parameters.{Parameters}
 use Rattle.model.specs.Parameters.{Check, ◌unless◌, refusal_of, parameter_checks, limit, max_text, in_range}
 use Rattle.model.specs.Words.{Argument, register, special, direct, literal, argument_word, iar_number, ircr_number, shr_number, Cell, cell_with, cell_words}
 use Rattle.model.specs.Numbers.{bytes, among, upper, mapped, natural, number}
-use Rattle.model.specs.Instructions.{Row, rows, nop_number, row_of}
+use Rattle.model.specs.Instructions.{Row, rows, nop_number, divr_number, row_of}
 
 -- w in front of ws, unless it is empty
 abbrev pub keep : List ℕ → List (List ℕ) → List (List ℕ)
@@ -88,7 +88,7 @@ plain (b ∷ s) =
 unfoldable pub argument : List ℕ → Option Argument
 argument w = elim (eqb (special_of w) 0) [ true ↦ plain w | false ↦ some (special (special_of w)) ]
 
--- Something, or the number of a fault: 11 to 14.
+-- Something, or the number of a fault: 11 to 14 and 19.
 pub data Checked (A : Type 0) : Type 0 where
   fine : A → Checked A
   fault : ℕ → Checked A
@@ -119,12 +119,20 @@ arguments_from p xs (f ∷ fs) [] = fault 12
 arguments_from p xs (f ∷ fs) (w ∷ ws) =
     elim (checked_argument p f (argument w)) [ fine x ↦ arguments_from p (xs ++ (x ∷ [])) fs ws | fault k ↦ fault k ]
 
+-- Request E3: "ARG1 and ARG3 are one register" of a DIVR, where both are registers.
+abbrev pub one_target : Cell → Bool
+one_target c = eqb c.head divr_number && eqb c.first c.third
+
+-- "19 .. after the three arguments have passed 13 and 14".
+abbrev pub unless_one_target : Cell → Checked Cell
+unless_one_target c = cond (one_target c) (fault 19) (fine c)
+
 -- The instruction's number in front of its arguments.
 abbrev pub headed : ℕ → Checked (List ℕ) → Checked Cell
-headed n (fine xs) = fine (cell_with n xs)
+headed n (fine xs) = unless_one_target (cell_with n xs)
 headed n (fault k) = fault k
 
--- "11 unknown instruction, 12 wrong count of arguments", then the arguments. "A line without words is NOP."
+-- "11 unknown instruction, 12 wrong count of arguments", then the arguments, then 19. "A line without words is NOP."
 unfoldable pub line_cell : Parameters → List (List ℕ) → Checked Cell
 line_cell p [] = fine (cell_with nop_number [])
 line_cell p (w ∷ ws) =
@@ -161,7 +169,7 @@ unfoldable pub lines_words : Parameters → List (List ℕ) → List ℕ
 lines_words p [] = []
 lines_words p (l ∷ ls) = words_of (line_of p l) ++ lines_words p ls
 
--- What the text alone is refused for, 8 ("more than T lines") and 11 to 14; or the count of lines.
+-- What the text alone is refused for, 8 ("more than T lines"), 11 to 14 and 19; or the count of lines.
 unfoldable pub text_reply : Parameters → List ℕ → LoadReply
 text_reply p text = cond (leb (length (lines text)) p.t) (lines_reply p 0 (lines text)) (Refused 8 0)
 

@@ -30,6 +30,7 @@ refusal_number_of refusal.Record = 15
 refusal_number_of refusal.InputLength = 16
 refusal_number_of refusal.Cycles = 17
 refusal_number_of refusal.DecimalLength = 18
+refusal_number_of refusal.SameTarget = 19
 
 -- The refusal's number, 0 if there is none.
 abbrev pub refusal_number : {A : Type 0} → Result A Refusal → ℕ

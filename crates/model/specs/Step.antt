@@ -9,7 +9,7 @@ use Rattle.model.specs.Parameters.{limit, in_range, eq_z, is_boolean, is_true}
 use Rattle.model.specs.Words.{Cell, cell_at, is_empty, kind_of, register_kind, direct_kind, number_kind, content_of, iar_number, ircr_number, shr_number, number_of}
 use Rattle.model.specs.Numbers.{is_blank, number}
 use Rattle.model.specs.Arithmetic.{Answer, value, code}
-use Rattle.model.specs.Instructions.{Position, first, second, third, Operation, clear_registers, clear_cells, dump_registers, dump_cells, inputs, outputs, pushes, pops, skips, idles, writes, jumps, jumps_on, row_of, cost_of}
+use Rattle.model.specs.Instructions.{Position, first, second, third, Operation, clear_registers, clear_cells, dump_registers, dump_cells, inputs, outputs, pushes, pops, skips, idles, writes, writes_both, jumps, jumps_on, row_of, cost_of}
 use Rattle.model.specs.Machine.{Machine, Status, running}
 
 -- What stays the same throughout a run.
@@ -108,6 +108,11 @@ abbrev pub stores : ℕ → State → Answer → Effect
 stores w s (value v) = next (store w v s)
 stores w s (code k) = fails k
 
+-- Two values go to their targets, after all sources were read; a return code changes nothing.
+abbrev pub stores_both : (w u : ℕ) → State → Answer → ℤ → Effect
+stores_both w u s (value v) z = next (store u z (store w v s))
+stores_both w u s (code k) z = fails k
+
 -- "Valid targets are 0..T-1, also of empty cells": code 1 (003: wrong jump target).
 unfoldable pub jump_to : Environment → ℤ → State → Effect
 jump_to e z s = cond (non_neg z && ltb (nat_abs z) e.parameters.t) (succeeds (with_iar (nat_abs z) s)) (fails 1)
@@ -164,6 +169,10 @@ execute e pops c s = pop e.parameters c.first s
 execute e skips c s = jump_to e (pos (s.iar + 2)) s
 execute e idles c s = next s
 execute e (writes to f) c s = stores (argument_at to c) s (f (limit e.parameters.k) (value_of s c.first) (value_of s c.second))
+execute e (writes_both f g) c s =
+    let x = value_of s c.first in
+    let y = value_of s c.second in
+    stores_both c.third c.first s (f (limit e.parameters.k) x y) (g x y)
 -- "An untaken jump never fails."
 execute e (jumps test) c s = cond (test (value_of s c.second) (value_of s c.third)) (jump_to e (value_of s c.first) s) (next s)
 -- "JMPT and JMPF test for a Boolean (code 2) before the target (code 1)."
@@ -190,6 +199,7 @@ written_by pops c s = []
 written_by skips c s = []
 written_by idles c s = []
 written_by (writes to f) c s = []
+written_by (writes_both f g) c s = []
 written_by (jumps test) c s = []
 written_by (jumps_on b) c s = []
 

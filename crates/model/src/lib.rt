@@ -60,6 +60,7 @@ pub enum Refusal {
     InputLength,
     Cycles,
     DecimalLength,
+    SameTarget,
 }
 
 impl From<Refusal> for u32 {
@@ -85,6 +86,7 @@ impl From<Refusal> for u32 {
             Refusal::InputLength => 16,
             Refusal::Cycles => 17,
             Refusal::DecimalLength => 18,
+            Refusal::SameTarget => 19,
         }
     }
 }

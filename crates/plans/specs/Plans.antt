@@ -1,5 +1,5 @@
 -- Plans: what a step comes to, and what that does to the registers, the data cells and the output.
-use Rattle.std.specs.Prelude.{ℕ, ◌+◌, ◌-◌, Bool, ◌&&◌, cond, List, [], ◌∷◌, eqb, ltb, ℤ, pos, nat_abs, length, get_or, set, drop, replicate}
+use Rattle.std.specs.Prelude.{ℕ, ◌+◌, ◌-◌, ◌≤◌, ◌≡◌, Bool, ◌&&◌, cond, List, [], ◌∷◌, eqb, ltb, ℤ, pos, nat_abs, length, get_or, set, drop, replicate}
 use Rattle.std.specs.Int.Signed.{non_neg}
 use Rattle.model.specs.Arithmetic.{Answer, value, code}
 use Rattle.model.specs.Parameters.{is_boolean}
@@ -30,13 +30,30 @@ abbrev pub value_out : ℕ
 value_out = 6
 
 -- WHAT A PLAN DOES
--- The registers after it: cleared by CLEAR_REG, or with the value written.
-abbrev pub registers_after : (to : ℕ) → ℤ → List ℤ → List ℤ
-registers_after to v rs = cond (eqb to all_registers) (replicate (length rs) (pos 0)) (cond (eqb (kind_of to) register_kind) (set rs (content_of to) v) rs)
+-- The registers, and the data cells, after a value was written to what a word names.
+abbrev pub register_written : (to : ℕ) → ℤ → List ℤ → List ℤ
+register_written to v rs = cond (eqb (kind_of to) register_kind) (set rs (content_of to) v) rs
 
--- The data cells after it: cleared by CLEAR_DATA_MEM, or with the value written.
-abbrev pub cells_after : (to : ℕ) → ℤ → List ℤ → List ℤ
-cells_after to v cs = cond (eqb to all_cells) (replicate (length cs) (pos 0)) (cond (eqb (kind_of to) direct_kind) (set cs (content_of to) v) cs)
+abbrev pub cell_written : (to : ℕ) → ℤ → List ℤ → List ℤ
+cell_written to v cs = cond (eqb (kind_of to) direct_kind) (set cs (content_of to) v) cs
+
+-- The same after the first value: cleared by CLEAR_REG or CLEAR_DATA_MEM, or with the value written.
+abbrev pub registers_first : (to : ℕ) → ℤ → List ℤ → List ℤ
+registers_first to v rs = cond (eqb to all_registers) (replicate (length rs) (pos 0)) (register_written to v rs)
+
+abbrev pub cells_first : (to : ℕ) → ℤ → List ℤ → List ℤ
+cells_first to v cs = cond (eqb to all_cells) (replicate (length cs) (pos 0)) (cell_written to v cs)
+
+-- After the plan: the second value is written behind the first.
+abbrev pub registers_after : Plan → List ℤ → List ℤ
+registers_after p rs = register_written p.second_to p.second_value (registers_first p.to p.value rs)
+
+abbrev pub cells_after : Plan → List ℤ → List ℤ
+cells_after p cs = cell_written p.second_to p.second_value (cells_first p.to p.value cs)
+
+-- Only a plan whose first value goes to a word has a second one.
+abbrev pub Paired : Plan → Type 0
+Paired p = p.to ≤ value_out → p.second_to ≡ nowhere
 
 -- The values that it writes to the output: those of DUMP_REG, DUMP_DATA_MEM and OUT.
 abbrev pub values_of : (to : ℕ) → ℤ → (registers cells : List ℤ) → List ℤ
@@ -46,13 +63,21 @@ values_of to v rs cs = cond (eqb to registers_out) rs (cond (eqb to cells_out) c
 unfoldable pub planned : Core → Plan → (registers cells : List ℤ) → State
 planned c p rs cs =
     cond (eqb p.next.ircr 0)
-    (state_of p.next (registers_after p.to p.value rs) (cells_after p.to p.value cs))
+    (state_of p.next (registers_after p rs) (cells_after p cs))
     (with_ircr p.next.ircr (state_of c rs cs))
 
 -- PLANS
+-- One with a single value.
+abbrev pub single : (to : ℕ) → ℤ → (next : Core) → Plan
+single to v next = record { value = v; to = to; second_value = pos 0; second_to = nowhere; next = next }
+
+-- The machine with IAR raised, and a code in IRCR.
+abbrev pub raised : (code : ℕ) → Core → Core
+raised k c = record { iar = c.iar + 1; ircr = k; top = c.top; place = c.place }
+
 -- "With code 0 it sets IRCR to 0 and raises IAR by one"; a value goes somewhere,
 unfoldable pub written_plan : (to : ℕ) → ℤ → Core → Plan
-written_plan to v c = record { value = v; to = to; next = record { iar = c.iar + 1; ircr = 0; top = c.top; place = c.place } }
+written_plan to v c = single to v (raised 0 c)
 
 -- or nothing does.
 abbrev pub kept_plan : Core → Plan
@@ -60,12 +85,17 @@ kept_plan c = written_plan nowhere (pos 0) c
 
 -- A code is set.
 unfoldable pub failed_plan : ℕ → Core → Plan
-failed_plan k c = record { value = pos 0; to = nowhere; next = record { iar = c.iar; ircr = k; top = c.top; place = c.place } }
+failed_plan k c = single nowhere (pos 0) (record { iar = c.iar; ircr = k; top = c.top; place = c.place })
 
 -- A value or a return code, as the code stores it: of a plan with a code nothing else counts, so that IAR is raised either way,
 abbrev pub computed_plan : (to : ℕ) → Answer → Core → Plan
 computed_plan to (value v) c = written_plan to v c
-computed_plan to (code k) c = record { value = pos 0; to = to; next = record { iar = c.iar + 1; ircr = k; top = c.top; place = c.place } }
+computed_plan to (code k) c = single to (pos 0) (raised k c)
+
+-- the same with a second value, which a plan with a code has not,
+abbrev pub paired_plan : (to second_to : ℕ) → Answer → ℤ → Core → Plan
+paired_plan to u (value v) z c = record { value = v; to = to; second_value = z; second_to = u; next = raised 0 c }
+paired_plan to u (code k) z c = record { value = pos 0; to = to; second_value = pos 0; second_to = u; next = raised k c }
 
 -- and as the definitions have it, with the machine at `moved` where it succeeds.
 abbrev pub answered_plan : (to : ℕ) (moved c : Core) → Answer → Plan
@@ -76,7 +106,7 @@ answered_plan to moved c (code k) = failed_plan k c
 unfoldable pub jump_plan : (t : ℕ) → ℤ → Core → Plan
 jump_plan t z c =
     cond (non_neg z && ltb (nat_abs z) t)
-    (record { value = pos 0; to = nowhere; next = record { iar = nat_abs z; ircr = 0; top = c.top; place = c.place } })
+    (single nowhere (pos 0) (record { iar = nat_abs z; ircr = 0; top = c.top; place = c.place }))
     (failed_plan 1 c)
 
 -- "An untaken jump never fails."

@@ -2,12 +2,12 @@
 #![tactic(auto)]
 
 ghost use Rattle.std.specs.Prelude.{◌≡◌, ◌+◌, ◌≤◌, pos, length};
-ghost use Rattle.arithmetic.specs.Answers.{answer_of};
+ghost use Rattle.arithmetic.specs.Answers.{answer_of, quotient_of, remainder_of};
 ghost use Rattle.bounds.specs.Bounds.{IsLimit};
-ghost use Rattle.plans.specs.Plans.{kept_plan, failed_plan, written_plan, computed_plan, jump_plan, taken_plan, boolean_plan, push_plan, pop_plan, input_plan};
+ghost use Rattle.plans.specs.Plans.{kept_plan, failed_plan, written_plan, computed_plan, paired_plan, single, jump_plan, taken_plan, boolean_plan, push_plan, pop_plan, input_plan};
 ghost use Rattle.model.specs.Parameters.{max_cells, max_instructions};
 
-use arithmetic::ReturnCode;
+use arithmetic::{Division, ReturnCode};
 use logic::booleans::is_boolean;
 use model::words::{FIRST_DIRECT, FIRST_REGISTER, SHR};
 use numbers::reading::{NumberError, read_number};
@@ -16,7 +16,7 @@ use text::tokens::next_token;
 
 const SHR_WORD: u32 = FIRST_REGISTER + SHR;
 
-// A value, where it goes, and where the machine stands after the step. A failing step has its code in `next.ircr`, and nothing else counts.
+// A value, where it goes, a second value for DIVR, and where the machine stands after the step. A failing step has its code in `next.ircr`, and nothing else counts.
 // No Result: a choice between two plans made the compiled loop wait for each result (docs/DECISIONS.md, "What a failing plan holds").
 // `to` is the word of a register or data cell, or one of the targets below, which are smaller. No enum: an instruction's word goes there as it stands,
 // and `effects::write` finds the slice by one subtraction and test, where an enum would have to be made of it and taken apart again.
@@ -24,6 +24,8 @@ const SHR_WORD: u32 = FIRST_REGISTER + SHR;
 pub struct Plan {
     pub value: i32,
     pub to: u32,
+    pub second_value: i32,
+    pub second_to: u32,
     pub next: Core,
 }
 
@@ -40,6 +42,19 @@ impl Plan {
     pub const DUMP_CELLS: u32 = 4;
 
     pub const OUTPUT: u32 = 6;
+
+    // A plan without a second value.
+    fn single(to: u32, value: i32, next: Core) -> Self
+        ensures { result ≡ single to value next }
+    {
+        Plan {
+            value,
+            to,
+            second_value: 0,
+            second_to: Plan::NOWHERE,
+            next,
+        }
+    }
 }
 
 // A value goes somewhere, and IAR is raised. That IAR is T at most is asked here and below. No ghost bounds: a plan's IAR is raised by one, so that a
@@ -49,15 +64,12 @@ pub fn store(to: u32, value: i32, at: Core) -> Plan
     requires { at.iar ≤ max_instructions }
     ensures { result ≡ written_plan to value at }
 {
-    Plan {
-        value,
-        to,
-        next: Core {
-            iar: at.iar + 1,
-            ircr: 0,
-            ..at
-        },
-    }
+    let next = Core {
+        iar: at.iar + 1,
+        ircr: 0,
+        ..at
+    };
+    Plan::single(to, value, next)
 }
 
 // IAR is raised, and no more.
@@ -73,11 +85,7 @@ pub fn keep(at: Core) -> Plan
 pub fn fail(code: u32, at: Core) -> Plan
     ensures { result ≡ failed_plan code at }
 {
-    Plan {
-        value: 0,
-        to: Plan::NOWHERE,
-        next: Core { ircr: code, ..at },
-    }
+    Plan::single(Plan::NOWHERE, 0, Core { ircr: code, ..at })
 }
 
 // The value of a computation goes somewhere, or its code is set. Without a choice here IAR does not wait for the value.
@@ -95,21 +103,37 @@ pub fn store_answer(to: u32, answer: Result<i32, ReturnCode>, at: Core) -> Plan
     plan
 }
 
+// The quotient and the remainder of a division go somewhere, or its code is set.
+#[tactic(auto, unfolding(crate::specs::Plans::written_plan))]
+pub fn store_both(to: u32, second_to: u32, division: Result<Division, ReturnCode>, at: Core) -> Plan
+    requires { at.iar ≤ max_instructions }
+    ensures { result ≡ paired_plan to second_to (quotient_of division) (remainder_of division) at }
+{
+    let (quotient, remainder, code) = match division {
+        Ok(d) => (d.quotient, d.remainder, 0),
+        Err(code) => (0, 0, u32::from(code)),
+    };
+    let mut plan = store(to, quotient, at);
+    plan.second_value = remainder;
+    plan.second_to = second_to;
+    plan.next.ircr = code;
+    plan
+}
+
 // A jump: valid targets are 0..T-1.
 #[tactic(auto, unfolding(crate::specs::Plans::jump_plan, crate::specs::Plans::failed_plan))]
 pub fn jump(t: u32, target: i32, at: Core) -> Plan
     ensures { result ≡ jump_plan t target at }
 {
     match u32::try_from(target) {
-        Ok(iar) if iar < t => Plan {
-            value: 0,
-            to: Plan::NOWHERE,
-            next: Core {
+        Ok(iar) if iar < t => {
+            let next = Core {
                 iar: iar as usize,
                 ircr: 0,
                 ..at
-            },
-        },
+            };
+            Plan::single(Plan::NOWHERE, 0, next)
+        }
         _ => fail(1, at),
     }
 }

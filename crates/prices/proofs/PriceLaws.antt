@@ -14,11 +14,12 @@ use mir.Val.{Fits}
 use Rattle.model.specs.declared.Parameters.{Parameters}
 use Rattle.model.specs.Parameters.{between}
 use Rattle.model.specs.Words.{Cell, kind_of, direct_kind}
-use Rattle.model.specs.Instructions.{Operation, clear_registers, clear_cells, dump_registers, dump_cells, inputs, outputs, pushes, pops, skips, idles, writes, jumps, jumps_on, Row, rows, row_of, directs, times, cost_of, is_direct, instruction_count}
+use Rattle.model.specs.Instructions.{Operation, clear_registers, clear_cells, dump_registers, dump_cells, inputs, outputs, pushes, pops, skips, idles, writes, writes_both, jumps, jumps_on, Row, rows, row_of, directs, times, cost_of, is_direct, instruction_count}
 use Rattle.model.specs.Load.{allows}
 use Rattle.model.specs.Images.{word_fits, words_fit, cell_fits}
 use Rattle.model.specs.Step.{State, written_by}
-use Rattle.model.proofs.Fits.{both, by_cond, is-between}
+use Rattle.model.proofs.Cells.{fits-number, fits-words}
+use Rattle.model.proofs.Fits.{both, by_cond}
 use Rattle.prices.specs.Prices.{price_table, price_count, price_of, value_count}
 use Rattle.image.proofs.FitLaws.{direct_word}
 use Rattle.image.proofs.RowLaws.{at-number}
@@ -35,27 +36,27 @@ price-none n l h = eqb-true _ _ (at-number (λ (k : ℕ). eqb (get_or price_tabl
 
 -- One, or two, where the row has such a price.
 abbrev for_one : ℕ → Bool
-for_one n = leb (length (row_of n).prices) 1 || eqb (get_or price_table (n + 49) 0) (price_of n 1)
+for_one n = leb (length (row_of n).prices) 1 || eqb (get_or price_table (n + 50) 0) (price_of n 1)
 
-pub price-one : (n : ℕ) → 1 ≤ n → n ≤ 10 → 1 < length (row_of n).prices → get_or price_table (n + 49) 0 ≡ price_of n 1
+pub price-one : (n : ℕ) → 1 ≤ n → n ≤ 10 → 1 < length (row_of n).prices → get_or price_table (n + 50) 0 ≡ price_of n 1
 unfolding price_table row_of
 price-one n l h less = eqb-true _ _ (rw (lt-leb (length (row_of n).prices) 1 less) at (at-number for_one 1 10 n refl l (omega arith)))
 
 abbrev for_two : ℕ → Bool
-for_two n = leb (length (row_of n).prices) 2 || (eqb (length (row_of n).prices) 3 && eqb (get_or price_table 60 0) (price_of n 2))
+for_two n = leb (length (row_of n).prices) 2 || (eqb (length (row_of n).prices) 3 && eqb (get_or price_table 61 0) (price_of n 2))
 
-pub price_two : (n d : ℕ) → 1 ≤ n → n ≤ 10 → d < length (row_of n).prices → 2 ≤ d → get_or price_table 60 0 ≡ price_of n d
+pub price_two : (n d : ℕ) → 1 ≤ n → n ≤ 10 → d < length (row_of n).prices → 2 ≤ d → get_or price_table 61 0 ≡ price_of n d
 unfolding price_table row_of
 price_two n d l h less two =
     let t = rw (lt-leb (length (row_of n).prices) 2 (omega arith)) at (at-number for_two 1 10 n refl l (omega arith)) in
-    let k = both (eqb (length (row_of n).prices) 3) (eqb (get_or price_table 60 0) (price_of n 2)) t in
+    let k = both (eqb (length (row_of n).prices) 3) (eqb (get_or price_table 61 0) (price_of n 2)) t in
     let e : d ≡ 2 = omega (arith, eqb-true (length (row_of n).prices) 3 k.0) in
     rw e (eqb-true _ _ k.1)
 
 -- Prices that are not multiplied, and those that are, by N or by S.
 times-one : (p : Parameters) (n : ℕ) → 5 ≤ n → n ≤ instruction_count → times p (row_of n).multiplier ≡ 1
 unfolding row_of
-times-one p n l h = eqb-true _ _ (at-number (λ (k : ℕ). eqb (times p (row_of k).multiplier) 1) 5 50 n refl l (omega arith))
+times-one p n l h = eqb-true _ _ (at-number (λ (k : ℕ). eqb (times p (row_of k).multiplier) 1) 5 51 n refl l (omega arith))
 
 pub times-registers : (p : Parameters) (n : ℕ) → n ≤ 4 → n % 2 ≡ 1 → times p (row_of n).multiplier ≡ p.n
 unfolding row_of
@@ -109,20 +110,18 @@ price-count n l h =
 
 one_price : (n : ℕ) → 11 ≤ n → n ≤ instruction_count → length (row_of n).prices ≡ 1
 unfolding row_of
-one_price n l h = eqb-true _ _ (at-number (λ (k : ℕ). eqb (length (row_of k).prices) 1) 11 44 n refl l (omega arith))
+one_price n l h = eqb-true _ _ (at-number (λ (k : ℕ). eqb (length (row_of k).prices) 1) 11 45 n refl l (omega arith))
 
 -- THE COST of a cell that fits.
 module _ (p : Parameters) (c : Cell) (fits : cell_fits p c ≡ true) where
   pub is_number : (1 ≤ c.head) × (c.head ≤ instruction_count)
-  unfolding cell_fits
-  is_number = is-between 1 instruction_count c.head (both (between 1 instruction_count c.head) _ fits).0
+  is_number = fits-number p c fits
 
   pub directs-priced : directs c < length (row_of c.head).prices
-  unfolding cell_fits directs
+  unfolding directs
   directs-priced =
       let ws = c.first ∷ c.second ∷ c.third ∷ [] in
-      let k = both (between 1 instruction_count c.head) (words_fit p (row_of c.head).forms ws) fits in
-      omega (arith, directs_allowed p (row_of c.head).forms ws k.1, price-count c.head is_number.0 is_number.1)
+      omega (arith, directs_allowed p (row_of c.head).forms ws (fits-words p c fits), price-count c.head is_number.0 is_number.1)
 
   module _ {price : ℕ} (e : price ≡ price_of c.head (directs c)) where
     pub cost_multiplied : {t : ℕ} → times p (row_of c.head).multiplier ≡ t → price * t ≡ cost_of p c
@@ -152,7 +151,7 @@ values-none p n a b d = go (dec_lt instruction_count n)
 
     go : Dec (instruction_count < n) → value_count p (row_of n).operation ≡ 0
     go (yes l) = over n l
-    go (no l) = eqb-true _ _ (rw (ne_eqb n 3 a, ne_eqb n 4 b, ne_eqb n 6 d) at (at-number test 0 55 n refl (omega arith) (omega arith)))
+    go (no l) = eqb-true _ _ (rw (ne_eqb n 3 a, ne_eqb n 4 b, ne_eqb n 6 d) at (at-number test 0 56 n refl (omega arith) (omega arith)))
 
 -- The values that a step writes are as many.
 pub written_count : (p : Parameters) (o : Operation) (c : Cell) (s : State) → length s.registers ≡ p.n → length s.cells ≡ p.s →
@@ -168,5 +167,6 @@ written_count p pops c s n k = refl
 written_count p skips c s n k = refl
 written_count p idles c s n k = refl
 written_count p (writes to f) c s n k = refl
+written_count p (writes_both f g) c s n k = refl
 written_count p (jumps test) c s n k = refl
 written_count p (jumps_on b) c s n k = refl

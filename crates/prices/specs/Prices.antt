@@ -1,7 +1,7 @@
 -- The prices in one list, and how many values an instruction writes.
 use Rattle.std.specs.Prelude.{ℕ, List, map, ◌++◌, get_or, take, drop}
 use Rattle.model.specs.declared.Parameters.{Parameters}
-use Rattle.model.specs.Instructions.{Operation, clear_registers, clear_cells, dump_registers, dump_cells, inputs, outputs, pushes, pops, skips, idles, writes, jumps, jumps_on, Row, rows, row_of}
+use Rattle.model.specs.Instructions.{Operation, clear_registers, clear_cells, dump_registers, dump_cells, inputs, outputs, pushes, pops, skips, idles, writes, writes_both, jumps, jumps_on, Row, rows, row_of}
 
 -- The prices of some rows for this many direct arguments.
 abbrev pub prices_for : ℕ → List Row → List ℕ
@@ -13,7 +13,7 @@ price_table = prices_for 0 rows ++ (prices_for 1 (take 6 (drop 4 rows)) ++ price
 
 -- How many there are.
 abbrev pub price_count : ℕ
-price_count = 61
+price_count = 62
 
 -- An instruction's price for this many direct arguments, as in `cost_of` of model.
 abbrev pub price_of : (number mode : ℕ) → ℕ
@@ -32,5 +32,6 @@ value_count p pops = 0
 value_count p skips = 0
 value_count p idles = 0
 value_count p (writes to f) = 0
+value_count p (writes_both f g) = 0
 value_count p (jumps test) = 0
 value_count p (jumps_on b) = 0

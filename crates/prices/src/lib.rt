@@ -15,7 +15,7 @@ use image::words::kind;
 use model::Parameters;
 
 // How many prices the table has.
-pub const ENTRIES: usize = 61;
+pub const ENTRIES: usize = 62;
 
 // Where the prices for one direct argument begin, less the number of IN, which is the first; and the price for two, MOV's.
 const ONE_DIRECT: u32 = INSTRUCTIONS - 5;
@@ -25,8 +25,8 @@ const TWO_DIRECT: usize = ENTRIES - 1;
 // By number, from 1 on, for no direct argument; then for one, IN, OUT, MOV, SET, PUSH and POP; then for two, MOV. An array, since nothing allocates.
 static PRICES: [u32; ENTRIES] = [
     1, 5, 51, 51, 51, 51, 2, 11, 8, 8, 1, 1, 1, 2, 2, 2, 2, 2, 1, 1, 4, 4, 10, 30, 30, 14, 14, 3,
-    3, 3, 3, 3, 3, 4, 6, 6, 6, 6, 7, 7, 9, 9, 4, 1, 1, 2, 2, 2, 2, 2, 1, 1, 1, 1, 55, 55, 6, 16,
-    12, 12, 10,
+    3, 3, 3, 3, 3, 4, 6, 6, 6, 6, 7, 7, 9, 9, 4, 1, 1, 2, 2, 2, 2, 2, 1, 1, 1, 1, 31, 55, 55, 6,
+    16, 12, 12, 10,
 ];
 
 // The list of the prices, which a call lends.

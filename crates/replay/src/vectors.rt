@@ -4,7 +4,7 @@ ghost use Rattle.bounds.specs.Bounds.{IsLimit, Within};
 
 use crate::printer::Printer;
 use crate::reader::Reader;
-use arithmetic::ReturnCode;
+use arithmetic::{Division, ReturnCode};
 use bounds::limits::limit_of;
 use bounds::ranges::in_range;
 use numbers::reading::{NumberError, read_number};
@@ -13,6 +13,17 @@ use numbers::reading::{NumberError, read_number};
 fn put_computed(to: &mut Printer, computed: Result<i32, ReturnCode>) {
     to.put(computed.err().map_or(0, u32::from));
     to.put_value(computed.unwrap_or(0));
+}
+
+// The return code, the quotient and the remainder; 0 for what there is not.
+fn put_division(to: &mut Printer, division: Result<Division, ReturnCode>) {
+    let (code, quotient, remainder) = match division {
+        Ok(d) => (0, d.quotient, d.remainder),
+        Err(code) => (u32::from(code), 0, 0),
+    };
+    to.put(code);
+    to.put_value(quotient);
+    to.put_value(remainder);
 }
 
 fn put_arithmetic(to: &mut Printer, m: u32, x: i32, y: i32)
@@ -30,6 +41,7 @@ fn put_arithmetic(to: &mut Printer, m: u32, x: i32, y: i32)
     ] {
         put_computed(to, computed);
     }
+    put_division(to, arithmetic::div_rem(m, x, y));
 }
 
 fn put_comparisons(to: &mut Printer, x: i32, y: i32) {

@@ -16,7 +16,7 @@ use Rattle.model.proofs.Loop.{run_keeps}
 use Rattle.model.proofs.Refusals.{grant-refused}
 use Rattle.model.specs.Calls.{Held, environment_for, account_of, Granted, granted, grant_refusal}
 use Rattle.model.specs.Grants.{Call, Account, Stop, beginning, advance, run, accept, hand_back}
-use Rattle.model.specs.Instructions.{Operation, clear_registers, clear_cells, dump_registers, dump_cells, inputs, outputs, pushes, pops, skips, idles, writes, jumps, jumps_on}
+use Rattle.model.specs.Instructions.{Operation, clear_registers, clear_cells, dump_registers, dump_cells, inputs, outputs, pushes, pops, skips, idles, writes, writes_both, jumps, jumps_on}
 use Rattle.model.specs.Machine.{Status, running, Look, stops, goes, look, look_at}
 use Rattle.model.specs.Parameters.{Fit}
 use Rattle.model.specs.Step.{Environment, State, Tak, written_by, current_cell, current_operation, state_status, step_cost, step_values}
@@ -43,6 +43,7 @@ few e f s h = go (current_operation e s)
     go skips = omega arith
     go idles = omega arith
     go (writes to g) = omega arith
+    go (writes_both f g) = omega arith
     go (jumps test) = omega arith
     go (jumps_on b) = omega arith
 

@@ -7,8 +7,8 @@ use lib.IntN.{ℤ}
 use lib.ListN.{length}
 use lib.Signed.{mag}
 use borrow.Author.Tests.{eq-eqb, ne_eqb}
-use Rattle.model.proofs.Cells.{CellReadable, cell-readable}
-use Rattle.model.proofs.Fits.{both, is-between, Limits as Known, limits}
+use Rattle.model.proofs.Cells.{CellReadable, cell-readable, fits-number}
+use Rattle.model.proofs.Fits.{Limits as Known, limits}
 use Rattle.model.proofs.Keeps.{value-mag}
 use Rattle.model.proofs.Ranges.{row-range}
 use Rattle.model.specs.Images.{cell_fits}
@@ -24,7 +24,7 @@ use Rattle.image.specs.declared.decode.Instruction.{Instruction}
 use Rattle.operands.specs.Cores.{state_of, Bounded}
 use Rattle.operands.specs.declared.Core.{Core}
 use Rattle.steps.specs.Choices.{plan_of, Choosable}
-use Rattle.plans.specs.Plans.{registers_after, cells_after, values_of, planned}
+use Rattle.plans.specs.Plans.{registers_after, cells_after, Paired, values_of, planned}
 use Rattle.plans.specs.declared.Plan.{Plan}
 use Rattle.steps.specs.Steppable.{written, Steppable}
 use Rattle.steps.proofs.Steps.{Does, Steady, plan-does}
@@ -72,9 +72,8 @@ module _ (l : Limits) {i : Instruction} {at : Core} {input : List ℕ} {register
 
   -- The values of the first two words, as they were read.
   pub choosable : {x y : ℤ} → x ≡ value_of s i.first → y ≡ value_of s i.second → Choosable i.number p l.m x y at registers cells input
-  unfolding cell_fits
   choosable e f =
-      let n = is-between 1 instruction_count i.number (both (between 1 instruction_count i.number) _ h.instruction).0 in
+      let n = fits-number p (cell_from i) h.instruction in
       record {
         from = n.0;
         to = n.1;
@@ -116,9 +115,12 @@ module _ (l : Limits) {i : Instruction} {at : Core} {input : List ℕ} {register
     pub room_enough : length (values_of plan.to plan.value registers cells) ≤ room
     room_enough = rw values-are h.room_for
 
+    pub is-paired : Paired plan
+    is-paired = (does []).paired
+
     -- A plan that succeeds.
-    pub stepped : plan.next.ircr ≡ 0 → (image : List ℕ) → {registers' cells' : List ℤ} → registers' ≡ registers_after plan.to plan.value registers →
-        cells' ≡ cells_after plan.to plan.value cells →
+    pub stepped : plan.next.ircr ≡ 0 → (image : List ℕ) → {registers' cells' : List ℤ} → registers' ≡ registers_after plan registers →
+        cells' ≡ cells_after plan cells →
         state_of plan.next registers' cells'
         ≡ settled s (execute (environment_of p image input) (row_of i.number).operation (cell_from i) s)
     unfolding planned

@@ -12,15 +12,15 @@ use lib.Signed.{mag, non_neg}
 use borrow.Author.Tests.{eqb-true, eqb-false, ne_eqb}
 use Rattle.model.proofs.Ranges.{Good, WritesRange}
 use Rattle.model.specs.Arithmetic.{Answer, value, code}
-use Rattle.model.specs.Instructions.{Position, first, Operation, clear_registers, clear_cells, dump_registers, dump_cells, inputs, outputs, pushes, pops, skips, idles, writes, jumps, jumps_on}
+use Rattle.model.specs.Instructions.{Position, first, third, Operation, clear_registers, clear_cells, dump_registers, dump_cells, inputs, outputs, pushes, pops, skips, idles, writes, writes_both, jumps, jumps_on}
 use Rattle.model.specs.Parameters.{max_cells, limit, is_boolean, is_true}
-use Rattle.model.specs.Step.{Environment, State, with_iar, with_ircr, with_shr, with_place, with_registers, with_cells, register_value, value_of, store, argument_at, Effect, succeeds, fails, next, stores, jump_to, push, pop, blanks_of, token_of, input_answer, input, execute, settled, written_by}
+use Rattle.model.specs.Step.{Environment, State, with_iar, with_ircr, with_shr, with_place, with_registers, with_cells, register_value, value_of, store, argument_at, Effect, succeeds, fails, next, stores, stores_both, jump_to, push, pop, blanks_of, token_of, input_answer, input, execute, settled, written_by}
 use Rattle.model.specs.Words.{Cell, kind_of, register_kind, direct_kind, number_kind, content_of, shr_number, number_of, word_of}
 use Rattle.model.specs.declared.Parameters.{Parameters}
 use Rattle.operands.specs.Cores.{state_of}
 use Rattle.operands.specs.declared.Core.{Core}
 use Rattle.steps.specs.Choices.{plan_of}
-use Rattle.plans.specs.Plans.{registers_after, cells_after, values_of, planned, written_plan, kept_plan, failed_plan, computed_plan, answered_plan, jump_plan, taken_plan, boolean_plan, with_top, moved_to, push_plan, pop_plan, input_plan}
+use Rattle.plans.specs.Plans.{nowhere, Paired, register_written, cell_written, registers_first, cells_first, single, raised, values_of, planned, written_plan, kept_plan, failed_plan, computed_plan, paired_plan, answered_plan, jump_plan, taken_plan, boolean_plan, with_top, moved_to, push_plan, pop_plan, input_plan}
 use Rattle.plans.specs.declared.Plan.{Plan}
 use Rattle.steps.proofs.Tops.{raised-top, top-raised, lowered-top, head_of, empty-top}
 
@@ -41,6 +41,7 @@ target_of pops = some first
 target_of skips = none
 target_of idles = none
 target_of (writes to f) = some to
+target_of (writes_both f g) = some third
 target_of (jumps test) = none
 target_of (jumps_on b) = none
 
@@ -50,10 +51,10 @@ NamesTarget o c = (to : Position) → target_of o ≡ some to → Named (argumen
 
 module _ (registers cells : List ℤ) where
   -- A word that names something is no instruction's number.
-  registers-named : (w : ℕ) (v : ℤ) → Named w → registers_after w v registers ≡ cond (eqb (kind_of w) register_kind) (set registers (content_of w) v) registers
+  registers-named : (w : ℕ) (v : ℤ) → Named w → registers_first w v registers ≡ register_written w v registers
   registers-named w v h = rw (ne_eqb w 1 (λ e. omega arith))
 
-  cells-named : (w : ℕ) (v : ℤ) → Named w → cells_after w v cells ≡ cond (eqb (kind_of w) direct_kind) (set cells (content_of w) v) cells
+  cells-named : (w : ℕ) (v : ℤ) → Named w → cells_first w v cells ≡ cell_written w v cells
   cells-named w v h = rw (ne_eqb w 2 (λ e. omega arith))
 
   values-named : (w : ℕ) (v : ℤ) → Named w → values_of w v registers cells ≡ []
@@ -64,6 +65,7 @@ module _ (registers cells : List ℤ) where
     pub step : planned c plan registers cells ≡ settled (state_of c registers cells) f
     pub values : values_of plan.to plan.value registers cells ≡ out
     pub silent : ¬ (plan.next.ircr ≡ 0) → [] ≡ out
+    pub paired : Paired plan
 
   -- A choice between two.
   cond-does : {c : Core} {p q : Plan} {f g : Effect} {out : List ℤ} (b : Bool) → (b ≡ true → Does c p f out) → (b ≡ false → Does c q g out) →
@@ -84,7 +86,7 @@ module _ (registers cells : List ℤ) where
       stored a b = cond a (with_registers (set registers (content_of w) v) s) (cond b (with_cells (set cells (content_of w) v) s) s)
 
       go : (a b : Bool) → eqb (kind_of w) register_kind ≡ a → eqb (kind_of w) direct_kind ≡ b →
-          state_of (record { iar = at.iar + 1; ircr = 0; top = at.top; place = at.place })
+          state_of (raised 0 at)
           (cond a (set registers (content_of w) v) registers) (cond b (set cells (content_of w) v) cells)
           ≡ with_ircr 0 (with_iar ((stored a b).iar + 1) (stored a b))
       go true true d e = absurd (omega (arith, eqb-true (kind_of w) register_kind d, eqb-true (kind_of w) direct_kind e))
@@ -94,12 +96,12 @@ module _ (registers cells : List ℤ) where
 
   written-does : (c at : Core) (w : ℕ) (v : ℤ) → Named w → Does c (written_plan w v at) (next (store w v (state_of at registers cells))) []
   unfolding written_plan
-  written-does c at w v h = record { step = written_step c at w v h; values = values-named w v h; silent = λ n. refl }
+  written-does c at w v h = record { step = written_step c at w v h; values = values-named w v h; silent = λ n. refl; paired = λ l. refl }
 
   -- A CODE SET
   failed-does : (at : Core) (k : ℕ) → Does at (failed_plan k at) (fails k) []
   unfolding planned failed_plan
-  failed-does at k = record { step = go (eqb k 0); values = refl; silent = λ n. refl }
+  failed-does at k = record { step = go (eqb k 0); values = refl; silent = λ n. refl; paired = λ l. refl }
     where
       failed : State
       failed = with_ircr k (state_of at registers cells)
@@ -111,7 +113,7 @@ module _ (registers cells : List ℤ) where
   -- NEITHER
   kept-does : (at : Core) → Does at (kept_plan at) (next (state_of at registers cells)) []
   unfolding planned written_plan
-  kept-does at = record { step = refl; values = refl; silent = λ n. refl }
+  kept-does at = record { step = refl; values = refl; silent = λ n. refl; paired = λ l. refl }
 
   -- A value or a code, with the machine moved on in the input.
   answered-does : (at : Core) (n w : ℕ) (a : Answer) → Named w →
@@ -124,16 +126,60 @@ module _ (registers cells : List ℤ) where
       Does at (computed_plan w a at) (stores w (state_of at registers cells) a) []
   unfolding planned written_plan
   computed-does m at w (value v) g h = written-does at at w v h
-  computed-does m at w (code k) g h = record { step = rw (ne_eqb k 0 (omega (arith, g.0))); values = values-named w _ h; silent = λ n. refl }
+  computed-does m at w (code k) g h = record { step = rw (ne_eqb k 0 (omega (arith, g.0))); values = values-named w _ h; silent = λ n. refl; paired = λ l. refl }
+
+  -- Two values or a code.
+  both_step : (at : Core) (w u : ℕ) (v z : ℤ) → Named w →
+      planned at (paired_plan w u (value v) z at) registers cells
+      ≡ settled (state_of at registers cells) (next (store u z (store w v (state_of at registers cells))))
+  unfolding planned store
+  both_step at w u v z h =
+      rw (registers-named w v h, cells-named w v h)
+      (go (eqb (kind_of w) register_kind) (eqb (kind_of w) direct_kind) (eqb (kind_of u) register_kind) (eqb (kind_of u) direct_kind) refl refl refl refl)
+    where
+      first : (a b : Bool) → State → State
+      first a b s = cond a (with_registers (set s.registers (content_of w) v) s) (cond b (with_cells (set s.cells (content_of w) v) s) s)
+
+      second : (a b : Bool) → State → State
+      second a b s = cond a (with_registers (set s.registers (content_of u) z) s) (cond b (with_cells (set s.cells (content_of u) z) s) s)
+
+      both : (a b c d : Bool) → State
+      both a b c d = second c d (first a b (state_of at registers cells))
+
+      go : (a b c d : Bool) → eqb (kind_of w) register_kind ≡ a → eqb (kind_of w) direct_kind ≡ b → eqb (kind_of u) register_kind ≡ c →
+          eqb (kind_of u) direct_kind ≡ d →
+          state_of (raised 0 at)
+          (cond c (set (cond a (set registers (content_of w) v) registers) (content_of u) z) (cond a (set registers (content_of w) v) registers))
+          (cond d (set (cond b (set cells (content_of w) v) cells) (content_of u) z) (cond b (set cells (content_of w) v) cells))
+          ≡ with_ircr 0 (with_iar ((both a b c d).iar + 1) (both a b c d))
+      go true true c d e f g h = absurd (omega (arith, eqb-true (kind_of w) register_kind e, eqb-true (kind_of w) direct_kind f))
+      go a b true true e f g h = absurd (omega (arith, eqb-true (kind_of u) register_kind g, eqb-true (kind_of u) direct_kind h))
+      go true false true false e f g h = refl
+      go true false false true e f g h = refl
+      go true false false false e f g h = refl
+      go false true true false e f g h = refl
+      go false true false true e f g h = refl
+      go false true false false e f g h = refl
+      go false false true false e f g h = refl
+      go false false false true e f g h = refl
+      go false false false false e f g h = refl
+
+  both-does : (m : ℕ) (at : Core) (w u : ℕ) (a : Answer) (z : ℤ) → Good m a → Named w →
+      Does at (paired_plan w u a z at) (stores_both w u (state_of at registers cells) a z) []
+  unfolding planned
+  both-does m at w u (value v) z g h =
+      record { step = both_step at w u v z h; values = values-named w v h; silent = λ n. refl; paired = λ l. absurd (omega (arith, h)) }
+  both-does m at w u (code k) z g h =
+      record { step = rw (ne_eqb k 0 (omega (arith, g.0))); values = values-named w _ h; silent = λ n. refl; paired = λ l. absurd (omega (arith, h)) }
 
   -- JUMPS
   jump-does : (e : Environment) (at : Core) (z : ℤ) → Does at (jump_plan e.parameters.t z at) (jump_to e z (state_of at registers cells)) []
   unfolding planned jump_plan jump_to
   jump-does e at z = cond-does (non_neg z && ltb (nat_abs z) e.parameters.t) (λ h. valid) (λ h. failed-does at 1)
     where
-      valid : Does at (record { value = pos 0; to = 0; next = record { iar = nat_abs z; ircr = 0; top = at.top; place = at.place } })
+      valid : Does at (single nowhere (pos 0) (record { iar = nat_abs z; ircr = 0; top = at.top; place = at.place }))
           (succeeds (with_iar (nat_abs z) (state_of at registers cells))) []
-      valid = record { step = refl; values = refl; silent = λ n. refl }
+      valid = record { step = refl; values = refl; silent = λ n. refl; paired = λ l. refl }
 
   taken-does : (e : Environment) (at : Core) (z : ℤ) (b : Bool) →
       Does at (taken_plan b e.parameters.t z at) (cond b (jump_to e z (state_of at registers cells)) (next (state_of at registers cells))) []
@@ -258,12 +304,12 @@ module _ (e : Environment) (at : Core) (registers cells : List ℤ) where
 
   pub plan-does : (o : Operation) (c : Cell) → Steady o c → Does registers cells at (plan_at o c) (execute e o c s) (written_by o c s)
   unfolding execute planned written_plan
-  plan-does clear_registers c h = record { step = rw h.register-count; values = refl; silent = λ n. refl }
-  plan-does clear_cells c h = record { step = rw h.cell-count; values = refl; silent = λ n. refl }
-  plan-does dump_registers c h = record { step = refl; values = refl; silent = λ n. absurd (n refl) }
-  plan-does dump_cells c h = record { step = refl; values = refl; silent = λ n. absurd (n refl) }
+  plan-does clear_registers c h = record { step = rw h.register-count; values = refl; silent = λ n. refl; paired = λ l. refl }
+  plan-does clear_cells c h = record { step = rw h.cell-count; values = refl; silent = λ n. refl; paired = λ l. refl }
+  plan-does dump_registers c h = record { step = refl; values = refl; silent = λ n. absurd (n refl); paired = λ l. refl }
+  plan-does dump_cells c h = record { step = refl; values = refl; silent = λ n. absurd (n refl); paired = λ l. refl }
   plan-does inputs c h = input-does registers cells e at c.first (h.target first refl)
-  plan-does outputs c h = record { step = refl; values = refl; silent = λ n. absurd (n refl) }
+  plan-does outputs c h = record { step = refl; values = refl; silent = λ n. absurd (n refl); paired = λ l. refl }
   plan-does pushes c h = push-does registers cells e.parameters at c.first h.high
   plan-does pops c h = pop-does registers cells e.parameters at c.first (h.target first refl) h.low
   plan-does skips c h = jump-does registers cells e at (pos (at.iar + 2))
@@ -272,6 +318,10 @@ module _ (e : Environment) (at : Core) (registers cells : List ℤ) where
       let x = value_of s c.first in
       let y = value_of s c.second in
       computed-does registers cells m at (argument_at to c) (f m x y) (h.range x y h.first-within h.second-within) (h.target to refl)
+  plan-does (writes_both f g) c h =
+      let x = value_of s c.first in
+      let y = value_of s c.second in
+      both-does registers cells m at c.third c.first (f m x y) (g x y) (h.range x y h.first-within h.second-within).0 (h.target third refl)
   plan-does (jumps test) c h = taken-does registers cells e at (value_of s c.first) (test (value_of s c.second) (value_of s c.third))
   plan-does (jumps_on b) c h =
       boolean-does registers cells e at (value_of s c.second) (value_of s c.first) (beq (is_true (value_of s c.second)) b)

@@ -8,6 +8,7 @@ use native.Mathlib.Omega.{arith}
 use lib.Dec.{eqb, leb}
 use lib.ListN.{length, get_or}
 use borrow.Author.Tests.{leb-true}
+use Rattle.model.proofs.Cells.{fits-words}
 use Rattle.model.proofs.Fits.{both}
 use Rattle.model.proofs.Rows.{row-rule}
 use Rattle.model.specs.Images.{word_fits, words_fit, cell_fits}
@@ -44,11 +45,10 @@ words-named p (f ∷ fs) (w ∷ ws) zero h l k = word-named p f w (both (word_fi
 words-named p (f ∷ fs) (w ∷ ws) (suc i) h l k = words-named p fs ws i (both (word_fits p f w) (words_fit p fs ws) h).1 (omega arith) (omega arith)
 
 pub names-target : (p : Parameters) (c : Cell) → cell_fits p c ≡ true → NamesTarget (row_of c.head).operation c
-unfolding cell_fits
 names-target p c h to e = go to (rw e at (row_arguments c.head))
   where
     fits : words_fit p (row_of c.head).forms (c.first ∷ c.second ∷ c.third ∷ []) ≡ true
-    fits = (both (between 1 (length rows) c.head) _ h).1
+    fits = fits-words p c h
 
     named : (i : ℕ) → i < length (row_of c.head).forms → i < 3 → Named (get_or (c.first ∷ c.second ∷ c.third ∷ []) i 0)
     named i l k = words-named p (row_of c.head).forms (c.first ∷ c.second ∷ c.third ∷ []) i fits l k

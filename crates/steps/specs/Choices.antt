@@ -1,7 +1,7 @@
 -- The plan of each class of operation.
 use Rattle.std.specs.Prelude.{ℕ, ◌+◌, ◌≤◌, List, ◌≡◌, ℤ, pos, length}
 use Rattle.std.specs.Bool.{beq}
-use Rattle.model.specs.Instructions.{Operation, clear_registers, clear_cells, dump_registers, dump_cells, inputs, outputs, pushes, pops, skips, idles, writes, jumps, jumps_on, instruction_count}
+use Rattle.model.specs.Instructions.{Operation, clear_registers, clear_cells, dump_registers, dump_cells, inputs, outputs, pushes, pops, skips, idles, writes, writes_both, jumps, jumps_on, instruction_count}
 use Rattle.model.specs.Parameters.{limit, is_true}
 use Rattle.model.specs.Step.{value_of, argument_at}
 use Rattle.model.specs.Words.{Cell}
@@ -9,7 +9,7 @@ use Rattle.model.specs.declared.Parameters.{Parameters}
 use Rattle.bounds.specs.Bounds.{IsLimit, Within}
 use Rattle.operands.specs.Cores.{state_of, Bounded}
 use Rattle.operands.specs.declared.Core.{Core}
-use Rattle.plans.specs.Plans.{all_registers, all_cells, registers_out, cells_out, value_out, written_plan, kept_plan, computed_plan, jump_plan, taken_plan, boolean_plan, push_plan, pop_plan, input_plan}
+use Rattle.plans.specs.Plans.{all_registers, all_cells, registers_out, cells_out, value_out, written_plan, kept_plan, computed_plan, paired_plan, jump_plan, taken_plan, boolean_plan, push_plan, pop_plan, input_plan}
 use Rattle.plans.specs.declared.Plan.{Plan}
 
 module _ (p : Parameters) (input : List ℕ) (at : Core) (registers cells : List ℤ) where
@@ -26,6 +26,7 @@ module _ (p : Parameters) (input : List ℕ) (at : Core) (registers cells : List
   plan_of skips c x y = jump_plan p.t (pos (at.iar + 2)) at
   plan_of idles c x y = kept_plan at
   plan_of (writes to f) c x y = computed_plan (argument_at to c) (f (limit p.k) x y) at
+  plan_of (writes_both f g) c x y = paired_plan c.third c.first (f (limit p.k) x y) (g x y) at
   plan_of (jumps test) c x y = taken_plan (test y (value_of (state_of at registers cells) c.third)) p.t x at
   plan_of (jumps_on b) c x y = boolean_plan y (beq (is_true y) b) p.t x at
 

@@ -4,7 +4,7 @@ ghost use Rattle.model.specs.Instructions.{row_of};
 ghost use Rattle.image.specs.Decode.{cell_from};
 ghost use Rattle.steps.specs.Choices.{Choosable, plan_of};
 
-use arithmetic::{abs, add, div, modulo, mul, neg, sub};
+use arithmetic::{abs, add, div, div_rem, modulo, mul, neg, sub};
 use bitwise::bits::{asr, rand, rnand, rnor, rnot, ror, rsl, rsr, rxor};
 use image::decode::Instruction;
 use logic::booleans::{
@@ -14,6 +14,7 @@ use model::Parameters;
 use operands::{Core, read};
 use plans::{
     Plan, input, jump, jump_boolean, jump_when, keep, pop, push, skip, store, store_answer,
+    store_both,
 };
 
 // The plan of an instruction whose first two words say x and y. The third is read by the jumps that compare, and by no other. p and m apart and no
@@ -91,6 +92,7 @@ pub fn choose(
         52 => store(i.first, rsl(m, x), at),
         53 => store(i.first, rsr(m, x), at),
         54 => store(i.first, asr(x), at),
+        55 => store_both(i.third, i.first, div_rem(m, x, y), at),
         _ => keep(at),
     }
 }

@@ -137,7 +137,7 @@ pub fn compare(
         let other_text = text.clone();
         let reply = first.load(load.parameters, text.get(), image.get_mut());
         let other_reply = second.load(load.parameters, other_text.get(), other.get_mut());
-        cover.load(&reply);
+        cover.load(load.parameters, &load.text, &reply);
         let found = replies(&reply, &other_reply)
             .or_else(|| image.difference(&other, "image"))
             .or_else(|| text.difference(&other_text, "text"));

@@ -1,6 +1,6 @@
 //! What a run has seen, and what it must have seen to count.
 
-use std::collections::BTreeMap;
+use std::collections::{BTreeMap, BTreeSet};
 
 use model::grant::grant_watched;
 use model::instructions::*;
@@ -11,7 +11,7 @@ pub struct Cover {
     counting: bool,
     seen: BTreeMap<String, u64>,
     /// For each instruction and return code, how many steps were taken.
-    steps: [[u64; 4]; 55],
+    steps: [[u64; 4]; INSTRUCTIONS.len() + 1],
     /// Why the record or memory of the coming grant is unfit.
     unfit: Vec<&'static str>,
     bad_image: &'static str,
@@ -26,7 +26,7 @@ impl Cover {
         Cover {
             counting: true,
             seen: BTreeMap::new(),
-            steps: [[0; 4]; 55],
+            steps: [[0; 4]; INSTRUCTIONS.len() + 1],
             unfit: Vec::new(),
             bad_image: "",
             bad_lengths: "",
@@ -47,14 +47,17 @@ impl Cover {
         *self.seen.entry(name).or_insert(0) += 1;
     }
 
-    pub fn load(&mut self, reply: &Loaded) {
+    pub fn load(&mut self, parameters: Parameters, text: &[u8], reply: &Loaded) {
         if !self.counting {
             return;
         }
         self.count(format!("load {}", reply.refusal));
-        if (11..=14).contains(&reply.refusal) {
+        if matches!(reply.refusal, 11..=14 | 19) {
             let place = if reply.line == 0 { "first" } else { "later" };
             self.count(format!("load {} in the {place} line", reply.refusal));
+            for name in same_target_lines(parameters, text, reply) {
+                self.count(format!("load {name}"));
+            }
         }
         if reply.refusal == 0 && reply.lines == 0 {
             self.count("load 0 without lines".into());
@@ -99,6 +102,7 @@ impl Cover {
         let steps = &mut self.steps;
         let push_fails = &mut self.push_fails;
         *push_fails = false;
+        let mut divisions = BTreeSet::new();
         grant_watched(
             &mut record.to_vec(),
             cycles,
@@ -107,11 +111,17 @@ impl Cover {
             &mut registers.to_vec(),
             &mut cells.to_vec(),
             &mut vec![0; output_length],
-            |instruction, code| {
-                steps[instruction as usize][code as usize] += 1;
-                *push_fails |= instruction == PUSH && code != 0;
+            |cell, code| {
+                steps[cell[0] as usize][code as usize] += 1;
+                *push_fails |= cell[0] == PUSH && code != 0;
+                if cell[0] == DIVR {
+                    divisions.insert((divisor(cell), code));
+                }
             },
         );
+        for (divisor, code) in divisions {
+            self.count(format!("DIVR by {divisor} with code {code}"));
+        }
     }
 
     pub fn after_grant(&mut self, reply: &Granted, cycles: u64, before: &[i64], after: &[i64]) {
@@ -214,14 +224,31 @@ impl Cover {
 pub fn codes(instruction: u32) -> &'static [usize] {
     match instruction {
         IN => &[0, 1, 2, 3],
-        DIV | JMPT | JMPF => &[0, 1, 2],
+        DIV | DIVR | JMPT | JMPF => &[0, 1, 2],
         MOD => &[0, 2],
         PUSH | POP | NOT..=NOR | NEG..=MUL | INC | DEC | JMP | JMPEQ..=JMPGE | SKIP => &[0, 1],
         _ => &[0],
     }
 }
 
-const IMAGE_FAULTS: [&str; 8] = [
+/// What DIVR may divide by.
+const DIVISORS: [&str; 4] = [
+    "its first argument",
+    "its third argument",
+    "another register",
+    "a special register",
+];
+
+/// What a refused text has to do with the refusal 19.
+const SAME_TARGET_LINES: [&str; 5] = [
+    "13 before 19",
+    "14 before 19",
+    "19 with the divisor's register too",
+    "19 before a faulty line",
+    "a faulty line before 19",
+];
+
+const IMAGE_FAULTS: [&str; 9] = [
     "a head that is no instruction's",
     "a word where an argument is absent",
     "a cell behind an empty one",
@@ -230,6 +257,7 @@ const IMAGE_FAULTS: [&str; 8] = [
     "a direct cell too high",
     "a number outside the range",
     "words behind a zero head",
+    "one register for both targets",
 ];
 
 const UNFIT: [&str; 18] = [
@@ -268,12 +296,15 @@ const DEEPEST: [&str; 9] = [
 
 fn required() -> Vec<String> {
     let mut names = Vec::new();
-    for number in (0..=8).chain(11..=14) {
+    for number in (0..=8).chain(11..=14).chain([19]) {
         names.push(format!("load {number}"));
     }
-    for number in 11..=14 {
+    for number in (11..=14).chain([19]) {
         names.push(format!("load {number} in the first line"));
         names.push(format!("load {number} in the later line"));
+    }
+    for name in SAME_TARGET_LINES {
+        names.push(format!("load {name}"));
     }
     names.push("load 0 without lines".into());
     for number in (0..=6).chain([9, 10, 100]) {
@@ -300,6 +331,14 @@ fn required() -> Vec<String> {
     names.push("grant 0 with all cycles granted".into());
     for name in DEEPEST {
         names.push(format!("grant 0 with deepest {name}"));
+    }
+    for divisor in DIVISORS {
+        for code in codes(DIVR) {
+            // A number divided by itself is 1.
+            if (divisor, *code) != (DIVISORS[0], 1) {
+                names.push(format!("DIVR by {divisor} with code {code}"));
+            }
+        }
     }
     for stepping in 1..=5 {
         names.push(format!("{stepping} grants of a list that take steps"));
@@ -361,6 +400,59 @@ fn unfit(
         .zip(conditions)
         .filter_map(|(name, holds)| holds.then_some(name))
         .collect()
+}
+
+/// The name in `DIVISORS` of a DIVR's divisor.
+fn divisor(cell: &[u32]) -> &'static str {
+    let [_, first, second, third] = cell else {
+        unreachable!("a cell has four words");
+    };
+    DIVISORS[match second & LOW {
+        IAR..=SHR => 3,
+        _ if second == first => 0,
+        _ if second == third => 1,
+        _ => 2,
+    }]
+}
+
+/// The names of `SAME_TARGET_LINES` that hold of a text refused for a line.
+fn same_target_lines(
+    parameters: Parameters,
+    text: &[u8],
+    reply: &Loaded,
+) -> impl Iterator<Item = &'static str> {
+    let mut lines = text.split(|byte| *byte == b'\n').skip(reply.line as usize);
+    let words = words(lines.next().unwrap_or(&[]));
+    let equal = |i: usize, j: usize| words.len() == 4 && words[i] == words[j];
+    let one_word = words.first().is_some_and(|name| name == b"DIVR") && equal(1, 3);
+    let later: Vec<u32> = lines.map(|line| fault_of_line(parameters, line)).collect();
+    let conditions = [
+        reply.refusal == 13 && one_word,
+        reply.refusal == 14 && one_word,
+        reply.refusal == 19 && equal(1, 2),
+        reply.refusal == 19 && later.iter().any(|fault| (11..=14).contains(fault)),
+        reply.refusal != 19 && later.contains(&19),
+    ];
+    SAME_TARGET_LINES
+        .into_iter()
+        .zip(conditions)
+        .filter_map(|(name, holds)| holds.then_some(name))
+}
+
+/// The words of a line in capitals, without its comment.
+fn words(line: &[u8]) -> Vec<Vec<u8>> {
+    let comment = line.iter().position(|byte| b"/#;".contains(byte));
+    line[..comment.unwrap_or(line.len())]
+        .split(|byte| b" \t\r,".contains(byte))
+        .filter(|word| !word.is_empty())
+        .map(|word| word.to_ascii_uppercase())
+        .collect()
+}
+
+/// The refusal of a line that is the whole text.
+fn fault_of_line(parameters: Parameters, line: &[u8]) -> u32 {
+    let parameters = Parameters { t: 1, ..parameters };
+    model::load(parameters, line, &mut [0; 4]).refusal
 }
 
 /// The names of `DEEPEST` that hold of an accepted grant.
@@ -435,6 +527,9 @@ fn fault(image: &[u32], parameters: Parameters) -> &'static str {
                 NUMBER if !(-m..m).contains(&number(*word)) => return IMAGE_FAULTS[6],
                 _ => (),
             }
+        }
+        if cell[0] == DIVR && cell[1] == cell[3] {
+            return IMAGE_FAULTS[8];
         }
     }
     ""

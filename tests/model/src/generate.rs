@@ -29,11 +29,12 @@ pub fn case(seed: u64, number: u64) -> Case {
 /// A program that runs, with grants, refused calls among them.
 fn running(random: &mut Random) -> Case {
     let parameters = parameters(random);
-    let program = match random.below(12) {
+    let program = match random.below(14) {
         0..4 => repaired(random, parameters),
         4..6 => mixing(random, parameters),
         6..9 => known(random, parameters),
         9..11 => stacking(random, parameters),
+        11..13 => dividing(random, parameters),
         _ => random_lines(random, parameters),
     };
     let text = spell(random, &program);
@@ -62,7 +63,7 @@ fn operands(random: &mut Random) -> Case {
         });
     }
     for _ in 0..random.within(1, i64::from(parameters.t.min(9)) - 3) {
-        let instruction = random.within(1, 54) as u32;
+        let instruction = instruction(random);
         program.push(line(random, instruction, parameters, parameters.t.into()));
     }
     let text = spell(random, &program);
@@ -85,8 +86,12 @@ fn words(random: &mut Random) -> Case {
     let count = random.within(1, 4);
     let mut text = Vec::new();
     for index in 0..count {
-        let plain = index + 1 < count || random.chance(30);
-        let instruction = random.within(1, 54) as u32;
+        let plain = random.chance(if index + 1 < count { 92 } else { 30 });
+        let instruction = if random.chance(10) {
+            DIVR
+        } else {
+            instruction(random)
+        };
         let line = line(random, instruction, parameters, parameters.t.into());
         let mut words = spell_words(random, &line, Style::random);
         if !plain {
@@ -94,6 +99,15 @@ fn words(random: &mut Random) -> Case {
                 if random.chance(50) {
                     *word = odd_word(random, parameters);
                 }
+            }
+            if line.instruction == DIVR && random.chance(40) {
+                let beyond = format!("R{}", parameters.n).into_bytes();
+                match random.below(4) {
+                    0 => words[1] = beyond,
+                    1 => words[2] = beyond,
+                    _ => (),
+                }
+                words[3] = words[1].clone();
             }
             match random.below(12) {
                 0 => {
@@ -251,12 +265,25 @@ fn argument(random: &mut Random, form: Form, parameters: Parameters, lines: i64)
     }
 }
 
+fn instruction(random: &mut Random) -> u32 {
+    random.within(1, INSTRUCTIONS.len() as i64) as u32
+}
+
 fn line(random: &mut Random, instruction: u32, parameters: Parameters, lines: i64) -> Line {
+    // Few DIVR have one register for both targets, which a machine of one register has no other way to write.
+    let (instruction, parted) = match (instruction, parameters.n) {
+        (DIVR, 1) if random.chance(90) => (DIV, false),
+        (DIVR, n) => (DIVR, n > 1 && random.chance(93)),
+        _ => (instruction, false),
+    };
     let forms = forms(instruction).expect("the number of an instruction");
-    let arguments = forms
+    let mut arguments: Vec<Argument> = forms
         .iter()
         .map(|form| argument(random, *form, parameters, lines))
         .collect();
+    while parted && arguments[2] == arguments[0] {
+        arguments[2] = register(random, parameters);
+    }
     Line {
         instruction,
         arguments,
@@ -269,7 +296,7 @@ fn random_lines(random: &mut Random, parameters: Parameters) -> Vec<Line> {
     let count = random.within(least, most);
     (0..count)
         .map(|_| {
-            let instruction = random.within(1, 54) as u32;
+            let instruction = instruction(random);
             line(random, instruction, parameters, count)
         })
         .collect()
@@ -283,7 +310,7 @@ fn repaired(random: &mut Random, parameters: Parameters) -> Vec<Line> {
         let Some(failed) = failing(&program, parameters) else {
             break;
         };
-        let instruction = random.within(1, 54) as u32;
+        let instruction = instruction(random);
         program[failed] = line(random, instruction, parameters, count);
     }
     program
@@ -373,12 +400,46 @@ fn stacking(random: &mut Random, parameters: Parameters) -> Vec<Line> {
     program
 }
 
+/// Registers at the ends of the range, and DIVR by one of its own targets, by another register or by a special one.
+fn dividing(random: &mut Random, parameters: Parameters) -> Vec<Line> {
+    let m = i64::from(parameters.m());
+    let registers = parameters.n.min(3);
+    let mut program: Vec<Line> = (0..registers)
+        .map(|register| Line {
+            instruction: SET,
+            arguments: vec![
+                Argument::Register(register.into()),
+                Argument::Number(match random.below(6) {
+                    0 | 1 => -m,
+                    2 => -1,
+                    3 => random.within(-1, 1),
+                    _ => number_in_range(random, parameters),
+                }),
+            ],
+        })
+        .collect();
+    for _ in 0..random.within(1, 4) {
+        let mut line = line(random, DIVR, parameters, 1);
+        if let [first, second, third] = &mut line.arguments[..] {
+            match random.below(4) {
+                0 => *second = *first,
+                1 => *second = *third,
+                2 => *second = special(random),
+                _ => (),
+            }
+        }
+        program.push(line);
+    }
+    program.truncate(parameters.t as usize);
+    program
+}
+
 /// A program as people write them, if the machine has room for it: loops, recursion, stacks, inputs and dumps.
 fn known(random: &mut Random, parameters: Parameters) -> Vec<Line> {
     let m = i64::from(parameters.m());
     let count = random.within(1, 20.min(m - 1));
     let step = random.within(1, 3);
-    let text = match random.below(9) {
+    let text = match random.below(11) {
         // A counting loop.
         0 => format!("SET R0 0\nSET R1 {count}\nINC R0 {step}\nOUT R0\nJMPLT 2 R0 R1\nDUMP_REG"),
         // The greatest common divisor of two inputs.
@@ -399,8 +460,15 @@ fn known(random: &mut Random, parameters: Parameters) -> Vec<Line> {
             "SET R0 {}\nSET R1 -{count}\nDIV R0 R1 R2\nOUT R2\nMOD R0 R1 R2\nOUT R2\nINC R1 1\nJMP 2",
             random.within(-m, m - 1)
         ),
+        // Boxes and loose pieces of the inputs.
+        7 => format!("SET R1 {count}\nIN R0\nDIVR R0 R1 R2\nOUT R2\nOUT R0\nJMP 1"),
+        // The digits of a number, the last one first.
+        8 => format!(
+            "SET R0 {}\nSET R1 10\nDIVR R0 R1 R2\nOUT R0\nMOV R2 R0\nJMPNEQ 2 R0 R3",
+            random.within(0, m - 1)
+        ),
         // Doubling and squaring up to the overflow.
-        7 => "SET R0 1\nSET R1 -3\nADD R0 R0 R0\nOUT R0\nMUL R1 R1 R2\nSUB R1 R0 R1\nOUT R1\nJMP 2".into(),
+        9 => "SET R0 1\nSET R1 -3\nADD R0 R0 R0\nOUT R0\nMUL R1 R1 R2\nSUB R1 R0 R1\nOUT R1\nJMP 2".into(),
         // Prime numbers by trial division.
         _ => "SET R0 2\nSET R1 2\nSET R2 0\nJMPEQ 8 R0 R1\nMOD R0 R1 R3\nJMPEQ 9 R3 R2\nINC R1 1\nJMP 3\nOUT R0\n\
               INC R0 1\nJMP 1"
@@ -643,8 +711,9 @@ fn odd_word(random: &mut Random, parameters: Parameters) -> Vec<u8> {
 
 /// A word that is nearly an instruction's name.
 fn odd_name(random: &mut Random) -> Vec<u8> {
-    const FIXED: [&[u8]; 14] = [
+    const FIXED: [&[u8]; 15] = [
         b"CMP",
+        b"DIVMOD",
         b"CMPNE",
         b"JMPNE",
         b"JUMP",
@@ -662,7 +731,10 @@ fn odd_name(random: &mut Random) -> Vec<u8> {
     if random.chance(50) {
         return random.pick(&FIXED).to_vec();
     }
-    let mut name = INSTRUCTIONS[random.index(54)].name.as_bytes().to_vec();
+    let mut name = INSTRUCTIONS[random.index(INSTRUCTIONS.len())]
+        .name
+        .as_bytes()
+        .to_vec();
     let index = random.index(name.len());
     match random.below(4) {
         0 => {
@@ -905,6 +977,7 @@ fn image_edit(random: &mut Random, parameters: Parameters, lines: usize) -> Edit
             0,
             random.pick(&[
                 0,
+                54,
                 55,
                 56,
                 63,
@@ -915,7 +988,8 @@ fn image_edit(random: &mut Random, parameters: Parameters, lines: usize) -> Edit
                 u32::MAX,
             ]),
         ),
-        1 | 2 => (0, random.within(1, 54) as u32),
+        1 => (0, instruction(random)),
+        2 => (0, random.pick(&[DIVR, DIVR, ADD, MOD, OUT])),
         3 => (random.within(1, 3), 0),
         4 => (random.within(0, 3), random.next() as u32),
         5 => (random.within(1, 3), 1 << random.below(32)),

@@ -38,7 +38,7 @@ pub fn grant(
     )
 }
 
-/// A grant that tells each step's instruction and return code.
+/// A grant that tells each step's cell and return code.
 #[allow(clippy::too_many_arguments)]
 pub fn grant_watched(
     record: &mut [i64],
@@ -48,7 +48,7 @@ pub fn grant_watched(
     registers: &mut [i32],
     cells: &mut [i32],
     output: &mut [i32],
-    watch: impl FnMut(u32, u32),
+    watch: impl FnMut(&[u32], u32),
 ) -> Granted {
     let parameters = match accept(record, cycles, image, input, registers, cells) {
         Ok(parameters) => parameters,
@@ -152,12 +152,13 @@ const fn fixed_cost(head: u32) -> u8 {
         MUL => 10,
         INC | DEC => 14,
         DIV | MOD => 30,
+        DIVR => 31,
         _ => 0,
     }
 }
 
-const FIXED_COSTS: [u8; 55] = {
-    let mut costs = [0; 55];
+const FIXED_COSTS: [u8; INSTRUCTIONS.len() + 1] = {
+    let mut costs = [0; INSTRUCTIONS.len() + 1];
     let mut head = 1;
     while head < costs.len() {
         costs[head] = fixed_cost(head as u32);
@@ -225,7 +226,7 @@ struct Machine<'a> {
 
 impl Machine<'_> {
     /// Looks and steps until an ending holds; gives it with the number of values written.
-    fn run(&mut self, output: &mut [i32], mut watch: impl FnMut(u32, u32)) -> (u32, usize) {
+    fn run(&mut self, output: &mut [i32], mut watch: impl FnMut(&[u32], u32)) -> (u32, usize) {
         let image = self.image;
         let mut written = 0;
         loop {
@@ -252,7 +253,7 @@ impl Machine<'_> {
                 Ok(next) => self.iar = next,
                 Err(code) => self.ircr = code,
             }
-            watch(cell[0], self.ircr);
+            watch(cell, self.ircr);
             self.spent += cost;
             self.deepest = self.deepest.max(self.shr);
             written += values;
@@ -373,6 +374,14 @@ impl Machine<'_> {
                 self.set_register(cell[1], (bits >> 1) as i32);
             }
             ASR => self.set_register(cell[1], self.register(cell[1]) >> 1),
+            DIVR => {
+                let (a, b) = (self.register(cell[1]), self.register(cell[2]));
+                if b == 0 {
+                    return Err(2);
+                }
+                self.set_exact(cell[3], i64::from(a) / i64::from(b))?;
+                self.set_register(cell[1], a % b);
+            }
             _ => unreachable!("an image that passed check 10 has no other head"),
         }
         Ok(next)

@@ -2,7 +2,7 @@
 
 use crate::Parameters;
 use crate::instructions::{
-    Argument, DIRECT, IAR, LOW, NUMBER, REGISTER, SHR, encode, forms, number,
+    Argument, DIRECT, IAR, LOW, NUMBER, REGISTER, SHR, encode, forms, number, same_target,
 };
 
 /// Whether some text yields this image: cells of accepted lines, then only empty cells.
@@ -35,7 +35,7 @@ fn line(cell: &[u32], parameters: Parameters) -> bool {
             return false;
         }
     }
-    true
+    !same_target(cell)
 }
 
 /// The argument that a word stands for, if it is one.

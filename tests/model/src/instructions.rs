@@ -1,4 +1,4 @@
-//! The 54 instructions: their names, numbers and the forms that each argument may have.
+//! The 55 instructions: their names, numbers and the forms that each argument may have.
 
 use crate::Parameters;
 
@@ -7,7 +7,7 @@ use crate::Parameters;
 pub enum Form {
     /// A register that is read.
     Read,
-    /// A register that is written.
+    /// A register that is written, and perhaps read before.
     Write,
     /// A register or direct cell that is read.
     ReadAny,
@@ -56,7 +56,7 @@ const TARGET_READ: &[Form] = &[Form::Target, Form::Read];
 const TARGET_READ_READ: &[Form] = &[Form::Target, Form::Read, Form::Read];
 
 /// The instruction with number i stands at i - 1.
-pub const INSTRUCTIONS: [Instruction; 54] = [
+pub const INSTRUCTIONS: [Instruction; 55] = [
     row("CLEAR_REG", NONE),
     row("CLEAR_DATA_MEM", NONE),
     row("DUMP_REG", NONE),
@@ -111,6 +111,7 @@ pub const INSTRUCTIONS: [Instruction; 54] = [
     row("ASL", &[Form::Write]),
     row("RSR", &[Form::Write]),
     row("ASR", &[Form::Write]),
+    row("DIVR", &[Form::Write, Form::Read, Form::Write]),
 ];
 
 pub const CLEAR_REG: u32 = 1;
@@ -167,6 +168,7 @@ pub const RSL: u32 = 51;
 pub const ASL: u32 = 52;
 pub const RSR: u32 = 53;
 pub const ASR: u32 = 54;
+pub const DIVR: u32 = 55;
 
 /// The forms of the instruction with this number, if there is one.
 pub fn forms(number: u32) -> Option<&'static [Form]> {
@@ -197,6 +199,11 @@ pub fn encode(argument: Argument, form: Form, parameters: Parameters) -> Result<
         }
         _ => Err(14),
     }
+}
+
+/// Check 19 of a cell whose arguments are right: DIVR writes two registers, which may not be one.
+pub fn same_target(cell: &[u32]) -> bool {
+    cell[0] == DIVR && cell[1] == cell[3]
 }
 
 /// The number in the low 30 bits of a word, in two's complement.

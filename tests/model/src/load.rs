@@ -1,6 +1,6 @@
 //! The loader: a text to an image.
 
-use crate::instructions::{Argument, IAR, INSTRUCTIONS, IRCR, NOP, SHR, encode};
+use crate::instructions::{Argument, IAR, INSTRUCTIONS, IRCR, NOP, SHR, encode, same_target};
 use crate::{MAX_BYTES, Parameters};
 
 /// The reply of `load`; `refusal` is 0 where the text was accepted.
@@ -81,6 +81,9 @@ fn cell(line: &[u8], parameters: Parameters) -> Result<[u32; 4], u32> {
     let mut cell = [index as u32 + 1, 0, 0, 0];
     for ((place, word), form) in cell[1..].iter_mut().zip(words).zip(forms) {
         *place = encode(argument(word).ok_or(13u32)?, *form, parameters)?;
+    }
+    if same_target(&cell) {
+        return Err(19);
     }
     Ok(cell)
 }

@@ -1,4 +1,4 @@
-//! The marked runs of document 01, with the answers that it states, and some of `deepest`: K = 8, N = 2, S = 4, B = 2, T = 6.
+//! The marked runs of document 01, with the answers that it states, and some of `deepest` and DIVR: K = 8, N = 2, S = 4, B = 2, T = 6.
 
 use model::{Parameters, RECORD_LENGTH, ending, record};
 
@@ -81,6 +81,33 @@ pub fn check(machine: &dyn Machine) -> Vec<String> {
         let after = run(machine, &format!("SET R0 {a}\nSET R1 {b}\n{line}"));
         let holds = after.registers[1] == value && after.record[record::IRCR] == code;
         hold(&format!("{line} on {a} and {b}"), holds);
+    }
+    // Two operands, a DIVR, the values that it leaves in R0 and R1 and the return code.
+    for (a, b, line, values, code) in [
+        (13, -10, "DIVR R0 R1 R1", [3, -1], 0),
+        (-13, 10, "DIVR R0 R1 R1", [-3, -1], 0),
+        (-13, -10, "DIVR R0 R1 R1", [-3, 1], 0),
+        (13, -10, "DIVR R1 R0 R0", [0, -10], 0),
+        (13, -10, "DIVR R0 R0 R1", [0, 1], 0),
+        (-128, -1, "DIVR R0 R1 R1", [-128, -1], 1),
+        (-128, 0, "DIVR R0 R1 R1", [-128, 0], 2),
+        (13, -10, "DIVR R0 IAR R1", [1, 6], 0),
+    ] {
+        let after = run(machine, &format!("SET R0 {a}\nSET R1 {b}\n{line}"));
+        let spent = after.record[record::SPENT] == 11 + 11 + 31;
+        let holds = after.registers == values && after.record[record::IRCR] == code && spent;
+        hold(&format!("{line} on {a} and {b}"), holds);
+    }
+    for (line, refusal) in [
+        ("DIVR R0 R1 R0", 19),
+        ("DIVR R00 R1 R0", 19),
+        ("DIVR R0 R0 R0", 19),
+        ("DIVR R0 R9 R0", 14),
+        ("DIVR IAR R0 IAR", 13),
+        ("DIVR R0 R0 R1", 0),
+        ("DIVR R0 R1 R1", 0),
+    ] {
+        hold(line, run(machine, line).refusal == refusal);
     }
     let after = run(machine, "PUSH SHR");
     hold(

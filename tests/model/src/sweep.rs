@@ -14,7 +14,8 @@ pub fn sweep(first: &dyn Machine, second: &dyn Machine) -> (u64, Vec<String>) {
         found.extend(result);
     };
     let all: Vec<i32> = (-128..128).collect();
-    for instruction in 1..=54 {
+    let instructions = 1..=INSTRUCTIONS.len() as u32;
+    for instruction in instructions.clone() {
         note(steps(first, second, instruction, 8, &all));
         for k in 9..=30 {
             note(steps(first, second, instruction, k, &edges(k)));
@@ -23,10 +24,13 @@ pub fn sweep(first: &dyn Machine, second: &dyn Machine) -> (u64, Vec<String>) {
     for turns in 0..1 << STACK_CELLS {
         note(stacks(first, second, turns));
     }
+    for granted in 30..=31 {
+        note(divisions(first, second, granted));
+    }
     for head in 0..64 {
         note(images(first, second, head));
     }
-    for instruction in 1..=54 {
+    for instruction in instructions {
         note(lines(first, second, instruction));
     }
     note(decimals(first, second));
@@ -137,6 +141,44 @@ fn steps(
     None
 }
 
+/// One DIVR with just enough cycles or one too few, for all registers as its arguments, special ones among them.
+fn divisions(first: &dyn Machine, second: &dyn Machine, granted: i64) -> Option<String> {
+    for (a, b) in [(0, 1), (0, 2), (1, 0), (1, 2), (2, 0), (2, 1)] {
+        for divisor in [0, 1, 2, IAR, IRCR, SHR] {
+            let [a, divisor, b] = [a, divisor, b].map(|register| REGISTER << 30 | register);
+            let image = [NOP, 0, 0, 0, DIVR, a, divisor, b, 0, 0, 0, 0];
+            for x in edges(8) {
+                for y in edges(8) {
+                    let run = |machine: &dyn Machine| {
+                        let mut record = [8, 3, 2, 0, 3, 1, 0, -1, 0, granted, 0, 1];
+                        let mut registers = [x, y, x ^ y];
+                        let mut cells = [5; 2];
+                        let mut output = [];
+                        let reply = machine.grant(
+                            &mut record,
+                            0,
+                            &image,
+                            b"",
+                            &mut registers,
+                            &mut cells,
+                            &mut output,
+                        );
+                        (reply, record, registers, cells)
+                    };
+                    let (ours, theirs) = (run(first), run(second));
+                    if ours != theirs {
+                        return Some(format!(
+                            "image {image:X?}, R0 {x}, R1 {y}, R2 {}, {granted} cycles: {ours:?}, {theirs:?}",
+                            x ^ y
+                        ));
+                    }
+                }
+            }
+        }
+    }
+    None
+}
+
 /// The cells of a program of `stacks`.
 const STACK_CELLS: usize = 6;
 
@@ -234,8 +276,9 @@ fn images(first: &dyn Machine, second: &dyn Machine, head: u32) -> Option<String
 
 /// Load of all lines of one instruction with up to three words, and some with four.
 fn lines(first: &dyn Machine, second: &dyn Machine, instruction: u32) -> Option<String> {
-    const WORDS: [&str; 27] = [
+    const WORDS: [&str; 28] = [
         "R0",
+        "r00",
         "r01",
         "R2",
         "R256",

@@ -36,6 +36,11 @@ pub enum Fault {
     DeepestAllowedAtS,
     DeepestAllowedBelowShr,
     DeepestRefusedAtTop,
+    SameTargetMissing,
+    SameTargetBeforeForm,
+    SameTargetBeforeRange,
+    SameTargetOfDivisor,
+    SameTargetImageAccepted,
     FloorDivision,
     ModuloOfDivisor,
     ArithmeticShiftAsLogical,
@@ -48,12 +53,19 @@ pub enum Fault {
     CodeOneForDivisorZero,
     DeepestAnewAtGrant,
     DeepestFallsAtPop,
+    DivrExchanged,
+    DivrReadsQuotient,
+    DivrOverflowWritesRemainder,
+    DivrByZeroWritesQuotient,
+    DivrFloors,
+    DivrRemainderOfDivisor,
+    DivrCostsThirty,
     /// No fault, but single steps: the comparison must find nothing.
     None,
 }
 
 impl Fault {
-    pub const ALL: [Fault; 37] = [
+    pub const ALL: [Fault; 49] = [
         Fault::SpentReplyHigh,
         Fault::SpentRecordHigh,
         Fault::ShrHigh,
@@ -79,6 +91,11 @@ impl Fault {
         Fault::DeepestAllowedAtS,
         Fault::DeepestAllowedBelowShr,
         Fault::DeepestRefusedAtTop,
+        Fault::SameTargetMissing,
+        Fault::SameTargetBeforeForm,
+        Fault::SameTargetBeforeRange,
+        Fault::SameTargetOfDivisor,
+        Fault::SameTargetImageAccepted,
         Fault::FloorDivision,
         Fault::ModuloOfDivisor,
         Fault::ArithmeticShiftAsLogical,
@@ -91,6 +108,13 @@ impl Fault {
         Fault::CodeOneForDivisorZero,
         Fault::DeepestAnewAtGrant,
         Fault::DeepestFallsAtPop,
+        Fault::DivrExchanged,
+        Fault::DivrReadsQuotient,
+        Fault::DivrOverflowWritesRemainder,
+        Fault::DivrByZeroWritesQuotient,
+        Fault::DivrFloors,
+        Fault::DivrRemainderOfDivisor,
+        Fault::DivrCostsThirty,
     ];
 
     /// Whether the fault is one of a step, and not of a reply or a buffer.
@@ -105,8 +129,26 @@ impl Machine for Wrong {
     fn load(&self, parameters: Parameters, text: &[u8], image: &mut [u32]) -> Loaded {
         let old = image.to_vec();
         let mut reply = Model.load(parameters, text, image);
-        let faulty_line = (11..=14).contains(&reply.refusal);
+        let faulty_line = matches!(reply.refusal, 11..=14 | 19);
         match self.0 {
+            Fault::SameTargetMissing => reply = load_without_19(parameters, text, image),
+            Fault::SameTargetBeforeForm if reply.refusal == 13 && one_target(text, reply.line) => {
+                reply.refusal = 19;
+            }
+            Fault::SameTargetBeforeRange if reply.refusal == 14 && one_target(text, reply.line) => {
+                reply.refusal = 19;
+            }
+            Fault::SameTargetOfDivisor if reply.refusal == 0 => {
+                let divides_itself = |cell: &[u32]| cell[0] == DIVR && cell[1] == cell[2];
+                if let Some(line) = image.chunks_exact(4).position(divides_itself) {
+                    image.copy_from_slice(&old);
+                    reply = Loaded {
+                        refusal: 19,
+                        lines: 0,
+                        line: line as u64,
+                    };
+                }
+            }
             Fault::RefusedLoadWritesWord if reply.refusal != 0 && !image.is_empty() => {
                 image[0] ^= 1;
             }
@@ -130,6 +172,7 @@ impl Machine for Wrong {
         record: &mut [i64],
     ) -> u32 {
         let last = cells.last().copied();
+        let image = &self.taken_for(image);
         let refusal = Model.start(parameters, image, registers, cells, record);
         match self.0 {
             Fault::RefusedStartWritesRecord if refusal != 0 => record.fill(0),
@@ -162,6 +205,7 @@ impl Machine for Wrong {
         if let Some(deepest) = mistaken {
             record[DEEPEST] = deepest;
         }
+        let image = &self.taken_for(image);
         let mut reply = Model.grant(record, cycles, image, input, registers, cells, output);
         if mistaken.is_some() {
             record[DEEPEST] = old[DEEPEST];
@@ -221,7 +265,54 @@ impl Machine for Wrong {
     }
 }
 
+/// A load that never gives 19: such a line is loaded as the DIV of its arguments, and its head put right.
+fn load_without_19(parameters: Parameters, text: &[u8], image: &mut [u32]) -> Loaded {
+    let mut lines: Vec<Vec<u8>> = text.split(|byte| *byte == b'\n').map(Vec::from).collect();
+    let mut heads = Vec::new();
+    loop {
+        let reply = Model.load(parameters, &lines.join(&b'\n'), image);
+        if reply.refusal != 19 {
+            if reply.refusal == 0 {
+                for line in heads {
+                    image[4 * line] = DIVR;
+                }
+            }
+            return reply;
+        }
+        let line = &mut lines[reply.line as usize];
+        let last_letter = line
+            .iter()
+            .position(|byte| byte.eq_ignore_ascii_case(&b'V'));
+        line.remove(last_letter.expect("a line with 19 begins with DIVR") + 1);
+        heads.push(reply.line as usize);
+    }
+}
+
+/// Whether a line is a DIVR with one word for both targets.
+fn one_target(text: &[u8], line: u64) -> bool {
+    let line = text.split(|byte| *byte == b'\n').nth(line as usize);
+    let words: Vec<&[u8]> = line
+        .unwrap_or_default()
+        .split(|byte| b" \t\r,".contains(byte))
+        .filter(|word| !word.is_empty())
+        .collect();
+    words.len() == 4
+        && words[0].eq_ignore_ascii_case(b"DIVR")
+        && words[1].eq_ignore_ascii_case(words[3])
+}
+
 impl Wrong {
+    /// The image that a wrong check 10 takes an image for: it lets a DIVR pass whose targets are one register.
+    fn taken_for(&self, image: &[u32]) -> Vec<u32> {
+        let mut image = image.to_vec();
+        if self.0 == Fault::SameTargetImageAccepted {
+            for cell in image.chunks_exact_mut(4).filter(|cell| same_target(cell)) {
+                cell[0] = DIV;
+            }
+        }
+        image
+    }
+
     /// What a wrong check 15 takes a record's `deepest` for.
     fn mistaken(&self, record: &[i64]) -> Option<i64> {
         if record.len() != RECORD_LENGTH {
@@ -280,7 +371,11 @@ impl Wrong {
                 0 => 0,
                 _ => cost(cell, parameters) as i64,
             };
-            let dear = granted - record[SPENT] < price;
+            let asked = match cell[0] {
+                DIVR if self.0 == Fault::DivrCostsThirty => 30,
+                _ => price,
+            };
+            let dear = granted - record[SPENT] < asked;
             record[GRANTED] = match step {
                 3000 => granted,
                 _ if dear => record[SPENT],
@@ -369,7 +464,36 @@ impl Wrong {
             {
                 record[DEEPEST] -= 1;
             }
-            Fault::CodeOneForDivisorZero if matches!(cell[0], DIV | MOD) && !done => {
+            Fault::DivrExchanged if cell[0] == DIVR && done => {
+                registers.swap(low(cell[1]), low(cell[3]));
+            }
+            Fault::DivrReadsQuotient if cell[0] == DIVR && cell[2] == cell[3] && done => {
+                let quotient = registers[low(cell[3])];
+                if quotient != 0 {
+                    registers[low(cell[1])] = get(cell[1]) % quotient;
+                }
+            }
+            Fault::DivrOverflowWritesRemainder if cell[0] == DIVR && record[RECORD_IRCR] == 1 => {
+                registers[low(cell[1])] = 0;
+            }
+            Fault::DivrByZeroWritesQuotient if cell[0] == DIVR && record[RECORD_IRCR] == 2 => {
+                registers[low(cell[3])] = 0;
+            }
+            Fault::DivrFloors if cell[0] == DIVR && done => {
+                let (a, b) = (get(cell[1]), get(cell[2]));
+                if a % b != 0 && (a < 0) != (b < 0) {
+                    registers[low(cell[3])] -= 1;
+                    registers[low(cell[1])] += b;
+                }
+            }
+            Fault::DivrRemainderOfDivisor if cell[0] == DIVR && done => {
+                let (remainder, b) = (registers[low(cell[1])], get(cell[2]));
+                if (remainder < 0) != (b < 0) {
+                    registers[low(cell[1])] = -remainder;
+                }
+            }
+            Fault::DivrCostsThirty if cell[0] == DIVR => record[SPENT] -= 1,
+            Fault::CodeOneForDivisorZero if matches!(cell[0], DIV | MOD | DIVR) && !done => {
                 record[RECORD_IRCR] = 1;
                 registers.copy_from_slice(old_registers);
                 cells.copy_from_slice(old_cells);

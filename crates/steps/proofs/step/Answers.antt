@@ -8,7 +8,7 @@ use mir.Facts.{to_z-of_z}
 use mir.Syntax.{w32}
 use mir.Val.{SFits, to_z, of_z}
 use Rattle.effects.specs.Effects.{output_after}
-use Rattle.steps.proofs.Ready.{bounded, indexed, choosable, values-are, room_enough, stepped, failed, output-left}
+use Rattle.steps.proofs.Ready.{bounded, indexed, choosable, values-are, room_enough, is-paired, stepped, failed, output-left}
 use Rattle.steps.proofs.step.Goals as goal
 
 -- A value as it was read.
@@ -38,7 +38,11 @@ apply-requires c =
     let e = value_read c.read-x.type_inv c.read-x.ensures in
     let f = value_read c.read-y.type_inv c.read-y.ensures in
     let g = c.choose-plan.ensures in
-    record { indexed = indexed c.args.limits c.requires; cells_in_bounds = room_enough c.args.limits c.requires e f g }
+    record {
+      indexed = indexed c.args.limits c.requires;
+      cells_in_bounds = room_enough c.args.limits c.requires e f g;
+      paired = is-paired c.args.limits c.requires e f g;
+    }
 
 pub returns : goal.returns
 returns c =

@@ -1,5 +1,5 @@
 -- `line::parse_arguments` meets its contract: each argument is read at its form, and no word is left. Assumes nothing.
-use Rattle.std.proofs.Common.{sym, refl, arith}
+use Rattle.std.proofs.Common.{sym, refl, ◌∙◌, arith}
 use Rattle.text.specs.Words.{words_left}
 use lib.ListN.{length-set}
 use Rattle.loader.proofs.LineLaws.{at-start, forms-few, at-argument, all_read, too_many}
@@ -19,7 +19,7 @@ loop-argument-preserved c =
 pub returns-in-None : goal.returns-in-None
 returns-in-None c =
     let inv = c.loop-argument.invariant in
-    sym (all_read c.args.limits.parameters c.args.number (words_left c.args.words) inv.1 inv.0 (omega (arith, c.loop-argument-test.false, c.loop-argument.auto.argument-index-end)) c.in-None.ensures.steps.0)
+    c.unless_one_target.ensures ∙ sym (all_read c.args.limits.parameters c.args.number (words_left c.args.words) inv.1 inv.0 (omega (arith, c.loop-argument-test.false, c.loop-argument.auto.argument-index-end)) c.in-None.ensures.steps.0)
 
 pub returns-in-Some : goal.returns-in-Some
 returns-in-Some c =
