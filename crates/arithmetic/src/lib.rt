@@ -1,4 +1,4 @@
-// NEG, ABS, ADD, SUB, MUL, DIV, MOD, INC, DEC and DIVR. NEG and DIV work in 32 bits, the others and every range test in 64.
+// NEG, ABS, ADD, SUB, MUL, DIV, MOD, INC, DEC and DIVR. NEG and DIV work in 32 bits, the others and every range test in 64; DIVR is DIV and MOD.
 // m is document 01's M, a number with the clause IsLimit. No type of it: `Limits` asks for parameters that fit, which is more, and of one of M alone each
 // `ensures` and definition would have to take the number out again. Nor of Within: values are read from lent slices as they stand, and such a type would
 // have to hold M beside each. No one function over a closure for ADD, SUB and MUL: `checked` is what they share, and what is left of each is its operator.

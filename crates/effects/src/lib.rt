@@ -84,8 +84,8 @@ fn apply_other(to: u32, value: i32, registers: &mut [i32], cells: &mut [i32], ou
     }
 }
 
-// A plan carried out: the registers, the data cells, and the values at the front of the output. Behind the first write, so that the other plans do not
-// wait for the test of a second one.
+// A plan carried out: the registers, the data cells, and the values at the front of the output. The test for a second value stands behind the first
+// write, so that plans that write no word do not wait for it.
 pub fn apply(plan: Plan, registers: &mut [i32], cells: &mut [i32], out: &mut [i32])
     requires indexed { Indexed registers.old cells.old }
     requires cells_in_bounds { length (values_of plan.to plan.value registers.old cells.old) ≤ length out.old }

@@ -8,7 +8,6 @@ use lib.Dec.{eqb}
 use lib.ListN.{length, get_or, take}
 use borrow.Author.Tests.{eqb-true, eqb-false, le-leb}
 use Rattle.model.specs.declared.Parameters.{Parameters}
-use Rattle.model.specs.Parameters.{between}
 use Rattle.model.specs.Words.{Cell, cell_with, is_empty}
 use Rattle.model.specs.Instructions.{rows, nop_number, row_of}
 use Rattle.model.specs.Load.{lookup, argument, Checked, fine, fault, checked_argument, arguments_from, one_target, unless_one_target, headed, line_cell, line_of}

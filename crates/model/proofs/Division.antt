@@ -4,17 +4,16 @@ use mathlib.Core.Bool.{Bool, true, false, cond, true≢false}
 use mathlib.Core.Path.{◌≡◌, refl, sym, ap, ◌∙◌}
 use native.Mathlib.Omega.{arith}
 use mathlib.Core.List.{List, [], ◌∷◌}
-use lib.Dec.{eqb}
 use lib.IntN.{ℤ, pos, negsuc, nat_abs, neg_ℤ, ◌+ℤ◌, ◌*ℤ◌}
 use lib.ListN.{get_or, set, length, length-set}
 use lib.Signed.{quot_z, rem_z, non_neg}
 use borrow.Author.Tests.{eq-eqb, ne_eqb}
 use Rattle.model.specs.Arithmetic.{Answer, value, code, checked, divide, remainder, Divided}
 use Rattle.model.specs.Images.{word_fits, words_fit, cell_fits}
-use Rattle.model.specs.Instructions.{Operation, divr_number, row_of, writes_both}
+use Rattle.model.specs.Instructions.{divr_number, row_of}
 use Rattle.model.specs.Load.{allows, is_within, one_target}
 use Rattle.model.specs.Parameters.{limit, in_range, eq_z}
-use Rattle.model.specs.Step.{Environment, State, with_iar, with_registers, register_value, value_of, store, Effect, succeeds, fails, next, stores_both, execute}
+use Rattle.model.specs.Step.{Environment, State, with_iar, with_registers, register_value, value_of, store, succeeds, fails, stores_both, execute}
 use Rattle.model.specs.Words.{Cell, kind_of, register_kind, content_of}
 use Rattle.model.specs.declared.Parameters.{Parameters}
 use Rattle.model.proofs.Cells.{fits-words, fits-targets}

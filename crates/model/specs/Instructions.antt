@@ -39,7 +39,8 @@ source_or_immediate = 11
 pub data Position : Type 0 where
   first second third : Position
 
--- What an instruction does. Functions take M, and the values of the first two arguments; those of a jump its second and third.
+-- What an instruction does. Functions take M, and the values of the first two arguments; the second of `writes_both` those values alone; those of a jump
+-- its second and third.
 pub data Operation : Type 0 where
   clear_registers clear_cells dump_registers dump_cells inputs outputs pushes pops skips idles : Operation
   writes : Position → (ℕ → ℤ → ℤ → Answer) → Operation

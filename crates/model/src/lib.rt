@@ -39,7 +39,7 @@ pub enum Ending {
     OutputFull,
 }
 
-// Why a call is refused: what does not fit. Instruction to ArgumentRange are faults of a line, and the last is the decimal writer's.
+// Why a call is refused: what does not fit. Instruction to ArgumentRange and SameTarget are faults of a line, and DecimalLength is the decimal writer's.
 #[derive(Clone, Copy, Debug, PartialEq, Eq)]
 pub enum Refusal {
     ParameterK,

@@ -92,7 +92,7 @@ abbrev pub computed_plan : (to : ℕ) → Answer → Core → Plan
 computed_plan to (value v) c = written_plan to v c
 computed_plan to (code k) c = single to (pos 0) (raised k c)
 
--- the same with a second value, which a plan with a code has not,
+-- the same with a second value, both 0 where there is a code,
 abbrev pub paired_plan : (to second_to : ℕ) → Answer → ℤ → Core → Plan
 paired_plan to u (value v) z c = record { value = v; to = to; second_value = z; second_to = u; next = raised 0 c }
 paired_plan to u (code k) z c = record { value = pos 0; to = to; second_value = pos 0; second_to = u; next = raised k c }

@@ -11,9 +11,8 @@ use Rattle.model.proofs.Cells.{CellReadable, cell-readable, fits-number}
 use Rattle.model.proofs.Fits.{Limits as Known, limits}
 use Rattle.model.proofs.Keeps.{value-mag}
 use Rattle.model.proofs.Ranges.{row-range}
-use Rattle.model.specs.Images.{cell_fits}
-use Rattle.model.specs.Instructions.{instruction_count, row_of}
-use Rattle.model.specs.Parameters.{limit, between}
+use Rattle.model.specs.Instructions.{row_of}
+use Rattle.model.specs.Parameters.{limit}
 use Rattle.model.specs.Step.{as_memory, State, environment_of, value_of, execute, settled}
 use Rattle.model.specs.declared.Parameters.{Parameters}
 use Rattle.bounds.specs.declared.limits.Limits.{Limits}

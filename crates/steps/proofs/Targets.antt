@@ -12,8 +12,7 @@ use Rattle.model.proofs.Cells.{fits-words}
 use Rattle.model.proofs.Fits.{both}
 use Rattle.model.proofs.Rows.{row-rule}
 use Rattle.model.specs.Images.{word_fits, words_fit, cell_fits}
-use Rattle.model.specs.Instructions.{Position, first, second, third, Row, rows, row_of}
-use Rattle.model.specs.Parameters.{between}
+use Rattle.model.specs.Instructions.{Position, first, second, third, Row, row_of}
 use Rattle.model.specs.Step.{argument_at}
 use Rattle.model.specs.Words.{Cell, kind_of}
 use Rattle.model.specs.declared.Parameters.{Parameters}
