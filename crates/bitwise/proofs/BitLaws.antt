@@ -42,14 +42,29 @@ bits_signed m u h = go (ltb u m) refl
     go true e = refl
     go false e = omega arith
 
--- RNOT: the 32 bits of x inverted are -1 - x, and so are its K bits.
-pub inverted-is : (m : ℕ) (x : ℤ) → SFits w32 x → mag x < m → to_z w32 (4294967295 - of_z w32 x) ≡ signed_of m (inverted m (bits_of m x))
+minus-one-pos : (n : ℕ) → negsuc 0 -ℤ pos n ≡ negsuc n
+minus-one-pos zero = refl
+minus-one-pos (suc n) = ap negsuc (omega arith)
+
+-- "RNOT x is -1 - x"
+pub inverted-is : (m : ℕ) (x : ℤ) → mag x < m → negsuc 0 -ℤ x ≡ signed_of m (inverted m (bits_of m x))
 unfolding bits_of
-inverted-is m (pos n) f h =
+inverted-is m (pos n) h =
+    let e : 2 * m - suc (2 * m - suc n) ≡ n = omega arith in
+    minus-one-pos n ∙ sym (signed_top m (2 * m - suc n) (omega arith) ∙ ap negsuc e)
+inverted-is m (negsuc n) h =
+    let e : 2 * m - suc (2 * m - suc n) ≡ n = omega arith in
+    let d : suc n - 1 ≡ n = omega arith in
+    sub_ge (suc n) 1 (omega arith) ∙ ap pos d ∙ rw e (signed_low m n h)
+
+-- RNOT in code: the 32 bits of x inverted, read back, are those K bits inverted too.
+pub inverted-word : (m : ℕ) (x : ℤ) → SFits w32 x → mag x < m → to_z w32 (4294967295 - of_z w32 x) ≡ signed_of m (inverted m (bits_of m x))
+unfolding bits_of
+inverted-word m (pos n) f h =
     let e : 2 * m - suc (2 * m - suc n) ≡ n = omega arith in
     let d : 4294967295 - n ≡ 2 ^ 32 - suc n = omega arith in
     rw (d, to_z-neg w32 n (omega (arith, f.sfits))) (sym (signed_top m (2 * m - suc n) (omega arith) ∙ ap negsuc e))
-inverted-is m (negsuc n) f h =
+inverted-word m (negsuc n) f h =
     let e : 2 * m - suc (2 * m - suc n) ≡ n = omega arith in
     let d : 4294967295 - (2 ^ 32 - suc n) ≡ n = omega (arith, f.sfits) in
     rw (d, to_z_pos w32 {n = n} (omega (arith, f.sfits)), e) (signed_low m n h)

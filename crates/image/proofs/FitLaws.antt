@@ -1,14 +1,14 @@
 -- The test of a cell's words, as the code makes it. Assumes nothing.
 use Prim.Native.Nat.{ℕ, ◌+◌, ◌*◌, ◌/◌, ◌%◌, ◌≤◌, ◌<◌}
 use mathlib.Core.Path.{◌≡◌, refl, sym, ap, ◌∙◌}
-use mathlib.Core.Bool.{Bool, true, false, not, ◌&&◌, and-true}
+use mathlib.Core.Bool.{Bool, true, false, not, ◌&&◌, and-true, and-false}
 use mathlib.Core.List.{List, [], ◌∷◌}
 use native.Mathlib.Omega.{arith}
 use lib.Dec.{eqb, leb, ltb}
 use lib.ListN.{length}
-use borrow.Author.Tests.{ne_eqb, le-leb, lt-leb, leb-true}
+use borrow.Author.Tests.{ne_eqb, le-leb, lt-leb, leb-true, lt-ltb, le-ltb}
 use Rattle.model.specs.declared.Parameters.{Parameters}
-use Rattle.model.specs.Parameters.{between, limit, in_range, Fit}
+use Rattle.model.specs.Parameters.{between, limit, max_registers, in_range, Fit}
 use Rattle.model.specs.Words.{register, direct, literal, Cell, kind_of, register_kind, direct_kind, number_kind, content_of, iar_number, shr_number, number_of}
 use Rattle.model.specs.Instructions.{instruction_count, row_of}
 use Rattle.model.specs.Load.{allows, is_within, one_target}
@@ -22,10 +22,15 @@ use Rattle.image.specs.Decode.{argument_word_fits, argument_words_fit}
 pub is-limit : (p : Parameters) {m : ℕ} → Fit p → m ≡ limit p.k → IsLimit m
 is-limit p f e = let l = limits p f in record { k = p.k; low = l.k-low; high = l.k-high; is = e }
 
--- A REGISTER that is none of the special ones, where its form is allowed.
-pub general-register : (p : Parameters) (form r : ℕ) → between iar_number shr_number r ≡ false → allows form (register r) ≡ true → ltb r p.n ≡ register_fits p form r
-unfolding is_within
-general-register p form r e h = rw (e, h)
+-- A REGISTER: R0 to R(N-1), or from N on only a special one.
+module _ (p : Parameters) (form r : ℕ) where
+  pub register-below : p.n ≤ max_registers → r < p.n → allows form (register r) ≡ register_fits p form r
+  unfolding is_within
+  register-below few h = rw (lt-leb iar_number r (omega arith), lt-ltb r p.n h) (sym (and-true (allows form (register r))))
+
+  pub register-behind : p.n ≤ r → between iar_number shr_number r ≡ false → false ≡ register_fits p form r
+  unfolding is_within
+  register-behind l e = rw (e, le-ltb r p.n l) (sym (and-false (allows form (register r))))
 
 -- A WORD, by its kind.
 module _ (p : Parameters) (form w : ℕ) where

@@ -27,8 +27,8 @@ const FORMS: [u32; INSTRUCTIONS as usize] = [
 // The table, which a call makes once and lends.
 #[derive(Drop)]
 pub struct FormTable {
-    forms: [u32; INSTRUCTIONS as usize],
-    ghost value: { forms ≡ form_table },
+    pub forms: [u32; INSTRUCTIONS as usize],
+    pub ghost value: { forms ≡ form_table },
 }
 
 impl FormTable {

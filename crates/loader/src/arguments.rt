@@ -15,7 +15,7 @@ use image::forms::{allows_direct, allows_number, allows_register, allows_special
 use image::kinds::Kind;
 use model::Refusal;
 use model::words::{FIRST_NUMBER, FIRST_REGISTER, IAR, KIND};
-use numbers::reading::{NumberError, read_digits, read_number};
+use numbers::reading::{NumberError, read_digits, read_digits_from, read_number};
 use text::bytes::upper;
 
 // The special registers, in the order of their numbers from that of IAR on.
@@ -58,7 +58,7 @@ fn direct_word(w: &[u8], form: u32, limits: Limits) -> Result<u32, Refusal>
     if w.len() < 2 || upper(w[1]) != b'M' || !allows_direct(form) {
         return Err(Refusal::ArgumentForm);
     }
-    indexed(Kind::Direct, limits.parameters.b, read_digits(&w[2..]))
+    indexed(Kind::Direct, limits.parameters.b, read_digits_from(w, 2))
 }
 
 // The word of a number.

@@ -117,10 +117,10 @@ fn find_long(w: &[u8]) -> Option<u32>
 // The names of the instructions, which a call makes once and lends. Arrays and no map: there is no heap, and one comparison at a key's remainder finds a name.
 #[derive(Drop)]
 pub struct NameTable {
-    keys: [u64; 51],
-    slots: [u8; 119],
-    ghost keys_value: { keys ≡ key_table },
-    ghost slots_value: { Slots slots },
+    pub keys: [u64; 51],
+    pub slots: [u8; 119],
+    pub ghost keys_value: { keys ≡ key_table },
+    pub ghost slots_value: { Slots slots },
 }
 
 impl NameTable {

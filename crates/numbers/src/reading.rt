@@ -1,5 +1,5 @@
 // Decimal numbers in a word.
-ghost use Rattle.std.specs.Prelude.{◌≡◌, ℕ, ◌+◌, ◌-◌, ◌*◌, ◌^◌, ◌≤◌, true, min, length};
+ghost use Rattle.std.specs.Prelude.{◌≡◌, ℕ, ◌+◌, ◌-◌, ◌*◌, ◌^◌, ◌≤◌, true, min, length, drop};
 ghost use Rattle.model.specs.Numbers.{is_digit, digits_from, natural, number};
 ghost use Rattle.model.specs.Step.{input_number};
 ghost use Rattle.numbers.specs.Reading.{capped, sign_length, signed_of, reading_of, answer_of};
@@ -65,6 +65,13 @@ pub fn read_digits(w: &[u8]) -> Option<u64>
     Some(n)
 }
 
+// The same from a place on: none where the word ends before it.
+pub fn read_digits_from(w: &[u8], from: usize) -> Option<u64>
+    ensures { result ≡ capped (natural (drop from w.now)) }
+{
+    read_digits(w.get(from..)?)
+}
+
 // The number of digits behind a sign, or behind none. -m is a number of the range, and m is none.
 fn signed(digits: Option<u64>, is_negative: bool, m: u32) -> Result<i32, NumberError>
     requires { m ≤ 2 ^ 29 }
@@ -93,6 +100,6 @@ pub fn read_number(w: &[u8], m: u32) -> Result<i32, NumberError>
     ensures answer { answer_of result ≡ input_number m (number w.now) }
 {
     let &b = w.first().ok_or(NumberError::NotANumber)?;
-    let digits = read_digits(&w[sign_length(b)..]);
+    let digits = read_digits_from(w, sign_length(b));
     signed(digits, b == b'-', m)
 }

@@ -4,7 +4,7 @@
 ghost use Rattle.std.specs.Prelude.{◌≡◌, ◌+◌, ◌≤◌, pos, length};
 ghost use Rattle.arithmetic.specs.Answers.{answer_of, quotient_of, remainder_of};
 ghost use Rattle.bounds.specs.Bounds.{IsLimit};
-ghost use Rattle.plans.specs.Plans.{kept_plan, failed_plan, written_plan, computed_plan, paired_plan, single, jump_plan, taken_plan, boolean_plan, push_plan, pop_plan, input_plan};
+ghost use Rattle.plans.specs.Plans.{kept_plan, failed_plan, written_plan, computed_plan, paired_plan, single, raised, jump_plan, taken_plan, boolean_plan, push_plan, pop_plan, input_plan};
 ghost use Rattle.model.specs.Parameters.{max_cells, max_instructions};
 
 use arithmetic::{Division, ReturnCode};
@@ -88,7 +88,18 @@ pub fn fail(code: u32, at: Core) -> Plan
     Plan::single(Plan::NOWHERE, 0, Core { ircr: code, ..at })
 }
 
-// The value of a computation goes somewhere, or its code is set. Without a choice here IAR does not wait for the value.
+// A value goes somewhere, IAR is raised and the code set, whatever both are. Without a choice here IAR does not wait for the value.
+#[tactic(auto, unfolding(crate::specs::Plans::written_plan))]
+pub fn store_coded(to: u32, value: i32, code: u32, at: Core) -> Plan
+    requires { at.iar ≤ max_instructions }
+    ensures { result ≡ single to value (raised code at) }
+{
+    let mut plan = store(to, value, at);
+    plan.next.ircr = code;
+    plan
+}
+
+// The value of a computation goes somewhere, or its code is set.
 #[tactic(auto, unfolding(crate::specs::Plans::written_plan))]
 pub fn store_answer(to: u32, answer: Result<i32, ReturnCode>, at: Core) -> Plan
     requires { at.iar ≤ max_instructions }
@@ -98,9 +109,7 @@ pub fn store_answer(to: u32, answer: Result<i32, ReturnCode>, at: Core) -> Plan
         Ok(value) => (value, 0),
         Err(code) => (0, u32::from(code)),
     };
-    let mut plan = store(to, value, at);
-    plan.next.ircr = code;
-    plan
+    store_coded(to, value, code, at)
 }
 
 // The quotient and the remainder of a division go somewhere, or its code is set.
@@ -113,10 +122,9 @@ pub fn store_both(to: u32, second_to: u32, division: Result<Division, ReturnCode
         Ok(d) => (d.quotient, d.remainder, 0),
         Err(code) => (0, 0, u32::from(code)),
     };
-    let mut plan = store(to, quotient, at);
+    let mut plan = store_coded(to, quotient, code, at);
     plan.second_value = remainder;
     plan.second_to = second_to;
-    plan.next.ircr = code;
     plan
 }
 

@@ -32,8 +32,8 @@ static PRICES: [u32; ENTRIES] = [
 // The list of the prices, which a call lends.
 #[derive(Clone, Copy)]
 pub struct Prices<'a> {
-    list: &'a [u32],
-    ghost list_value: { list.now ≡ price_table },
+    pub list: &'a [u32],
+    pub ghost list_value: { list.now ≡ price_table },
 }
 
 impl Prices<'static> {

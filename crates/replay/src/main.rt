@@ -34,6 +34,7 @@ struct Header {
     own: usize,
     beyond: usize,
     calls: u32,
+    ghost words_bound: { (words ≤ 256) × (registers ≤ 32) × (cells ≤ 64) },
     ghost bytes_bound: { (text < 2 ^ 32) × (own ≤ 131072) × (beyond ≤ 131072) },
 }
 

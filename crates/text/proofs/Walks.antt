@@ -5,7 +5,7 @@ use mathlib.Core.Bool.{Bool, true, false, not, ◌||◌}
 use mathlib.Core.List.{List, [], ◌∷◌, ◌++◌, append-nil}
 use native.Mathlib.Numerals.{one-add}
 use native.Mathlib.Omega.{arith}
-use lib.ListN.{length, drop, take, length-append}
+use lib.ListN.{length, drop, take, get_or, length-append}
 use lib.Seq.{append_snoc}
 use lib.Dec.{ltb}
 use native.Mathlib.Decide.{dec_lt}
@@ -230,6 +230,14 @@ first_line t {end} {next} h e n =
     let least : min (end + 1) (length t) ≡ next = omega (arith, n) in
     let behind = ap (λ (i : ℕ). drop i t) one ∙ sym (drop_min (end + 1) t) ∙ ap (λ (i : ℕ). drop i t) least in
     line-taken t [] (omega (arith, h)) ∙ ap (λ (i : ℕ). take i t ∷ lines (drop (suc (position_or_len is_line_feed t)) t)) (sym e) ∙ ap (λ (s : List ℕ). take end t ∷ lines s) behind
+
+-- A text that begins with an LF begins with a line without bytes.
+feed-first : (t : List ℕ) → get_or t 0 0 ≡ 10 → position_or_len is_line_feed t ≡ 0
+feed-first [] h = refl
+feed-first (b ∷ s) h = let e : is_line_feed b ≡ true = rw h refl in simp e
+
+pub empty_line : (t : List ℕ) → 0 < length t → get_or t 0 0 ≡ 10 → lines t ≡ [] ∷ lines (drop 1 t)
+empty_line t h e = first_line t {end = 0} {next = 1} h (sym (feed-first t e)) (omega arith)
 
 pub no_lines : (t : List ℕ) → length t ≡ 0 → lines t ≡ []
 unfolding lines_from

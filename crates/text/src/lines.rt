@@ -27,12 +27,16 @@ fn skip_blocks(t: &[u8]) -> usize
     BLOCK * blocks.unwrap_or(t.len() / BLOCK)
 }
 
-// The first line of a text, without its LF, and the lines behind it.
+// The first line of a text, without its LF, and the lines behind it. A line without bytes is seen at once, since looking for an LF block by block
+// costs more than such a line.
 fn split_line(t: &[u8]) -> Option<(&[u8], &[u8])>
     ensures { MatchOption result (lines t.now ≡ []) (λ r. lines t.now ≡ r.0.now ∷ lines r.1.now) }
 {
     if t.is_empty() {
         return None;
+    }
+    if t[0] == b'\n' {
+        return Some((&t[..0], &t[1..]));
     }
     let end = find_from(t, skip_blocks(t), |b| b == b'\n');
     Some((&t[..end], &t[t.len().min(end + 1)..]))

@@ -1,5 +1,5 @@
 // The words of a line.
-ghost use Rattle.std.specs.Prelude.{◌≡◌, ◌||◌, ◌∷◌, [], MatchOption};
+ghost use Rattle.std.specs.Prelude.{◌≡◌, ◌||◌, ◌++◌, ◌∷◌, [], ℕ, List, MatchOption, IfSome};
 ghost use Rattle.model.specs.Load.{is_separator, is_comment, words};
 
 use super::bytes::{is_comment, is_separator};
@@ -12,9 +12,10 @@ fn ends_word(b: u8) -> bool
     is_comment(b) || is_separator(b)
 }
 
-// The first word of a line, and what follows it.
-fn split_word(l: &[u8]) -> Option<(&[u8], &[u8])>
-    ensures { MatchOption result (words l.now ≡ []) (λ r. words l.now ≡ r.0.now ∷ words r.1.now) }
+// The first word of a line, and what follows it. Both stand where the line ends, so that their lengths say where the word is.
+pub fn split_word(l: &[u8]) -> Option<(&[u8], &[u8])>
+    ensures words { MatchOption result (words l.now ≡ []) (λ r. words l.now ≡ r.0.now ∷ words r.1.now) }
+    ensures place { IfSome result (λ r. (front : List ℕ) × (l.now ≡ front ++ (r.0.now ++ r.1.now))) }
 {
     let from_word = &l[find(l, |b| !is_separator(b))..];
     let (word, rest) = from_word.split_at(find(from_word, ends_word));

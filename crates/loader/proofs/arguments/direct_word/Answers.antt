@@ -1,11 +1,9 @@
 -- `direct_word` meets its contract. Assumes nothing.
-use Rattle.std.proofs.Common.{ℕ, List, sym, ap, ◌∙◌, arith}
+use Rattle.std.proofs.Common.{sym, ap, ◌∙◌, arith}
 use lib.ListN.{drop}
-use Rattle.std.proofs.lemmas.List.{take_rest}
 use Rattle.model.specs.Load.{checked_argument}
 use Rattle.model.specs.Numbers.{natural}
 use Rattle.model.proofs.Fits.{limits}
-use Rattle.numbers.specs.Reading.{capped}
 use Rattle.loader.specs.Faults.{indexed_of}
 use Rattle.loader.proofs.ArgumentLaws.{after-m, direct-checked}
 use Rattle.loader.proofs.arguments.direct_word.Goals as goal
@@ -18,9 +16,8 @@ returns c =
     let p = c.args.limits.parameters in
     let w = c.args.w.now in
     let l = limits p c.args.limits.fit in
-    let digits = c.read_digits.ensures ∙ ap (λ (s : List ℕ). capped (natural s)) (take_rest w 2) in
     let m = sym c.upper.ensures ∙ c.if-upper-ne77.false in
     c.indexed.ensures
-    ∙ ap (indexed_of 2 p.b) digits
+    ∙ ap (indexed_of 2 p.b) c.read_digits_from.ensures
     ∙ direct-checked p c.args.form (λ v. sym (c.allows_direct.ensures v) ∙ c.if-not-allows_direct.false) (omega (arith, l.b-high, l.s-high)) (natural (drop 2 w))
     ∙ sym (ap (checked_argument p c.args.form) (after-m w (omega arith) m))
