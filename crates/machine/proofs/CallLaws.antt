@@ -13,10 +13,10 @@ use Rattle.model.proofs.GrantKeeps.{AccountSound, record-sound, started-accepted
 use Rattle.model.proofs.Lists as lists
 use Rattle.model.proofs.Refusals.{grant-number}
 use Rattle.model.proofs.Replies.{start-answered, grant-answered}
-use Rattle.model.specs.Calls.{Held, held_after, environment_for, fresh_record, start_checks, account_of, record_of, Granted, granted, granted_by, grant_refusal, outcome_number, outcome_word, stop_word}
+use Rattle.model.specs.Calls.{Held, as_started, held_after, environment_for, fresh_record, start_checks, account_of, record_of, Granted, granted, granted_by, grant_refusal, outcome_number, outcome_word, stop_word}
 use Rattle.model.specs.Grants.{Call, Account, accept, hand_back}
 use Rattle.model.specs.Parameters.{refusal_of}
-use Rattle.model.specs.Replies.{refusal_number_of, start_answer, as_started, grant_answer}
+use Rattle.model.specs.Replies.{refusal_number_of, start_answer, grant_answer}
 use Rattle.model.specs.Step.{Environment, Memory, State, Tak}
 use Rattle.model.specs.declared.AcceptedGrant.{AcceptedGrant}
 use Rattle.model.specs.declared.Refusal.{Refusal}
@@ -38,7 +38,7 @@ module _ (e : Environment) (m : Memory) where
 
   pub start-accepts : 0 ≡ refusal_of (start_checks e m) → {registers' cells' : List ℤ} →
       registers' ≡ replicate (length m.registers) (pos 0) → cells' ≡ replicate (length m.cells) (pos 0) →
-      StartIs e m (as_started (Ok (fresh_record e.parameters)) registers' cells')
+      StartIs e m (as_started (start_answer (Ok (fresh_record e.parameters))) registers' cells')
   start-accepts q r c =
       let h = sym q in
       let sized = (start-accepted e m h).sized in

@@ -5,8 +5,8 @@ pub mod checks;
 
 ghost use Rattle.std.specs.Prelude.{◌≡◌, true, [], ◌≤◌, pos, ◌-ℤ◌};
 ghost use Rattle.std.specs.Int.Signed.{le_z};
-ghost use Rattle.model.specs.Calls.{as_held, as_call, account_of, record_of};
-ghost use Rattle.model.specs.Replies.{as_started, as_granted};
+ghost use Rattle.model.specs.Calls.{as_held, as_call, as_started, as_granted, account_of, record_of};
+ghost use Rattle.model.specs.Replies.{start_answer, grant_answer};
 ghost use Rattle.model.specs.Parameters.{max_cells, max_instructions};
 ghost use Rattle.model.specs.Step.{Memory, as_memory, environment_of};
 ghost use Rattle.operands.specs.Cores.{state_in};
@@ -29,7 +29,7 @@ pub fn start(
     cells: &mut [i32],
 ) -> Result<Record, Refusal>
     ensures { StartIs (environment_of p image.now []) (as_memory registers.old cells.old)
-        (as_started result registers.new cells.new) }
+        (as_started (start_answer result) registers.new cells.new) }
 {
     check_start(p, image, registers, cells)?;
     registers.fill(0);
@@ -103,7 +103,7 @@ pub fn grant(
 ) -> Result<AcceptedGrant, Refusal>
     ensures { GrantIs (environment_of rec.parameters image.now input.now)
         (as_held rec registers.old cells.old) (as_call cycles out.old)
-        (as_granted rec result registers.new cells.new out.new) }
+        (as_granted (grant_answer rec result) registers.new cells.new out.new) }
 {
     check_grant(rec, image, input, cycles, registers, cells)?;
     let program = Program {

@@ -37,6 +37,9 @@ pub record Started : Type 0 where
   pub reply : StartReply
   pub memory : Memory
 
+abbrev pub as_started : StartReply → (registers cells : List ℤ) → Started
+as_started r registers cells = record { reply = r; memory = as_memory registers cells }
+
 -- What a grant replies: what came of it, the record, "the number of values written and the cycles spent in this call".
 pub record GrantReply : Type 0 where
   pub outcome : Outcome
@@ -49,6 +52,9 @@ pub record Granted : Type 0 where
   pub reply : GrantReply
   pub memory : Memory
   pub slice : List ℤ
+
+abbrev pub as_granted : GrantReply → (registers cells slice : List ℤ) → Granted
+as_granted r registers cells slice = record { reply = r; memory = as_memory registers cells; slice = slice }
 
 -- "the record and memory that an accepted start with the list's image left"
 abbrev pub held_after_start : Started → Held

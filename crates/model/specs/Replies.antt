@@ -1,5 +1,5 @@
 -- What the code's calls answer, in document 01's numbers and values: a definition states them for each case of an answer.
-use Rattle.std.specs.Prelude.{ℕ, List, ℤ, Result, Ok, Err}
+use Rattle.std.specs.Prelude.{ℕ, Result, Ok, Err}
 use Rattle.model.specs.declared.AcceptedGrant.{AcceptedGrant}
 use Rattle.model.specs.declared.LoadError.{LoadError}
 use Rattle.model.specs.declared.Record.{Record}
@@ -7,8 +7,7 @@ use Rattle.model.specs.declared.Refusal.{Refusal}
 use Rattle.model.specs.declared.Refusal.TheVariants as refusal
 use Rattle.model.specs.Load.{LoadReply, Accepted, Refused}
 use Rattle.model.specs.Grants as outcome
-use Rattle.model.specs.Step.{as_memory}
-use Rattle.model.specs.Calls.{zero_record, StartReply, Started, GrantReply, Granted, DecimalReply}
+use Rattle.model.specs.Calls.{zero_record, StartReply, GrantReply, DecimalReply}
 
 -- The numbers of the refusals.
 abbrev pub refusal_number_of : Refusal → ℕ
@@ -47,16 +46,10 @@ abbrev pub start_answer : Result Record Refusal → StartReply
 start_answer (Ok r) = record { refusal = 0; rec = r }
 start_answer (Err r) = record { refusal = refusal_number_of r; rec = zero_record }
 
-abbrev pub as_started : Result Record Refusal → (registers cells : List ℤ) → Started
-as_started r registers cells = record { reply = start_answer r; memory = as_memory registers cells }
-
 -- GRANT: "a refused grant the record it was given, 0 values and 0 cycles".
 abbrev pub grant_answer : (given : Record) → Result AcceptedGrant Refusal → GrantReply
 grant_answer given (Ok g) = record { outcome = outcome.Stopped g.ending; rec = g.rec; values = g.values; cycles = g.cycles }
 grant_answer given (Err r) = record { outcome = outcome.Refused (refusal_number_of r); rec = given; values = 0; cycles = 0 }
-
-abbrev pub as_granted : (given : Record) → Result AcceptedGrant Refusal → (registers cells slice : List ℤ) → Granted
-as_granted given r registers cells slice = record { reply = grant_answer given r; memory = as_memory registers cells; slice = slice }
 
 -- DECIMAL: "With 18 the count is 0."
 abbrev pub decimal_answer : Result ℕ Refusal → DecimalReply

@@ -12,7 +12,7 @@ fn ends_word(b: u8) -> bool
     is_comment(b) || is_separator(b)
 }
 
-// The first word of a line, and what follows it. Both stand where the line ends, so that their lengths say where the word is.
+// The first word of a line, and what follows it. The word and the rest are the line's end, so that their lengths say where the word is.
 pub fn split_word(l: &[u8]) -> Option<(&[u8], &[u8])>
     ensures words { MatchOption result (words l.now ≡ []) (λ r. words l.now ≡ r.0.now ∷ words r.1.now) }
     ensures place { IfSome result (λ r. (front : List ℕ) × (l.now ≡ front ++ (r.0.now ++ r.1.now))) }
